@@ -1,0 +1,206 @@
+// Times the judge against serde_json on texts of each kind and length, all interleaved, and prints ratios.
+mod texts;
+mod typed;
+
+use std::hint::black_box;
+use std::time::Instant;
+use texts::{COSTLY, KINDS, ORDINARY};
+
+extern "C" {
+    fn json_judge(text: *const u8, len: usize) -> u32;
+}
+
+type Parser = fn(&[u8]) -> bool;
+
+const SIZES: [usize; 3] = [1024, 8192, 61440];
+const ROUNDS: usize = 31;
+// How long one parser runs at a time, in nanoseconds.
+const TURN: f64 = 1e6;
+
+// The judge is the first. Only recordings have the last.
+const PARSERS: [Parser; 4] = [judge, value, ignored, recording];
+
+fn answer(text: &[u8]) -> u32 {
+    // SAFETY: the pointer and the length are those of a slice, which the judge only reads.
+    unsafe { json_judge(text.as_ptr(), text.len()) }
+}
+
+fn judge(text: &[u8]) -> bool {
+    answer(text) == 0
+}
+
+fn value(text: &[u8]) -> bool {
+    serde_json::from_slice::<serde_json::Value>(text)
+        .map(black_box)
+        .is_ok()
+}
+
+fn ignored(text: &[u8]) -> bool {
+    serde_json::from_slice::<serde::de::IgnoredAny>(text).is_ok()
+}
+
+fn recording(text: &[u8]) -> bool {
+    serde_json::from_slice::<typed::Recording>(text)
+        .map(|r| drop(black_box(r)))
+        .is_ok()
+}
+
+// A text of a kind and a size, with the times of each parser: for each round, the nanoseconds of one run.
+struct Case {
+    text: Vec<u8>,
+    parsers: usize,
+    repeats: [u32; 4],
+    times: [Vec<f64>; 4],
+}
+
+impl Case {
+    fn new(kind: usize, size: usize) -> Case {
+        let text = (KINDS[kind].make)(size).into_bytes();
+        assert!(
+            text.len() <= size,
+            "{} is too long: {} bytes",
+            KINDS[kind].name,
+            text.len()
+        );
+        let parsers = if KINDS[kind].recording { 4 } else { 3 };
+        let mut repeats = [1; 4];
+        for p in 0..parsers {
+            assert!(
+                PARSERS[p](&text),
+                "parser {p} refuses {} of {} bytes",
+                KINDS[kind].name,
+                text.len()
+            );
+            let once = run(PARSERS[p], &text, 3);
+            repeats[p] = (TURN / once).max(1.0) as u32;
+        }
+        Case {
+            text,
+            parsers,
+            repeats,
+            times: Default::default(),
+        }
+    }
+
+    // Each parser has its turn, another one first in each round.
+    fn round(&mut self, round: usize) {
+        for i in 0..self.parsers {
+            let p = (i + round) % self.parsers;
+            let time = run(PARSERS[p], &self.text, self.repeats[p]);
+            self.times[p].push(time);
+        }
+    }
+
+    // The judge's nanoseconds for a byte, by round.
+    fn per_byte(&self) -> Vec<f64> {
+        self.times[0]
+            .iter()
+            .map(|t| t / self.text.len() as f64)
+            .collect()
+    }
+}
+
+// Nanoseconds of one run.
+fn run(parser: Parser, text: &[u8], repeats: u32) -> f64 {
+    let start = Instant::now();
+    for _ in 0..repeats {
+        black_box(parser(black_box(text)));
+    }
+    start.elapsed().as_nanos() as f64 / repeats as f64
+}
+
+fn median(mut v: Vec<f64>) -> f64 {
+    v.sort_by(f64::total_cmp);
+    v[v.len() / 2]
+}
+
+// The median of the ratios within each round, so that a slow moment of the machine hits both.
+fn ratio(a: &[f64], b: &[f64]) -> f64 {
+    median(a.iter().zip(b).map(|(x, y)| x / y).collect())
+}
+
+// Three digits that count.
+fn digits(x: f64) -> String {
+    let places = (2.0 - x.log10().floor()).clamp(0.0, 5.0) as usize;
+    format!("{x:.places$}")
+}
+
+fn print_speeds(cases: &[Vec<Case>]) {
+    println!("The judge's speed, and that speed over serde_json's (above 1 the judge is faster)\n");
+    println!(
+        "{:12} {:>6} {:>7} {:>10} {:>10} {:>10}",
+        "text", "bytes", "MB/s", "Value", "IgnoredAny", "typed"
+    );
+    for (kind, row) in KINDS.iter().zip(cases) {
+        for case in row {
+            let speed = 1e3 / median(case.per_byte());
+            print!(
+                "{:12} {:>6} {:>7}",
+                kind.name,
+                case.text.len(),
+                digits(speed)
+            );
+            for p in 1..case.parsers {
+                print!(" {:>10}", digits(ratio(&case.times[p], &case.times[0])));
+            }
+            println!();
+        }
+    }
+}
+
+fn print_growth(cases: &[Vec<Case>]) {
+    println!("\nThe judge's time for an eightfold text over that for the text (8 is linear)\n");
+    println!("{:12} {:>12} {:>12}", "text", "1 to 8 KB", "8 to 60 KB");
+    for (kind, row) in KINDS.iter().zip(cases) {
+        let small = 8.0 * ratio(&row[1].per_byte(), &row[0].per_byte());
+        let large = 8.0 * ratio(&row[2].per_byte(), &row[1].per_byte());
+        println!(
+            "{:12} {:>12} {:>12}",
+            kind.name,
+            digits(small),
+            digits(large)
+        );
+    }
+}
+
+fn print_worst(cases: &[Vec<Case>]) {
+    println!(
+        "\nThe judge's time for the costliest names over that for {} of the same length\n",
+        KINDS[ORDINARY].name
+    );
+    println!("{:12} {:>8} {:>8} {:>8}", "text", "1 KB", "8 KB", "60 KB");
+    for kind in COSTLY {
+        print!("{:12}", KINDS[kind].name);
+        for (case, ordinary) in cases[kind].iter().zip(&cases[ORDINARY]) {
+            let times = ratio(&case.per_byte(), &ordinary.per_byte());
+            print!(" {:>8}", digits(times));
+        }
+        println!();
+    }
+}
+
+fn main() {
+    let rounds = match std::env::args().nth(1) {
+        Some(word) => word.parse().expect("usage: bench [ROUNDS]"),
+        None => ROUNDS,
+    };
+    // The archive holds the judge that is meant: a good text, no JSON, and a name that stands twice.
+    assert_eq!(
+        [
+            answer(b"[1]"),
+            answer(b"[1"),
+            answer(br#"{"a":1,"\u0061":2}"#)
+        ],
+        [0, 2, 3]
+    );
+    let row = |kind| SIZES.iter().map(|size| Case::new(kind, *size)).collect();
+    let mut cases: Vec<Vec<Case>> = (0..KINDS.len()).map(row).collect();
+    for round in 0..rounds {
+        for case in cases.iter_mut().flatten() {
+            case.round(round);
+        }
+    }
+    print_speeds(&cases);
+    print_growth(&cases);
+    print_worst(&cases);
+}

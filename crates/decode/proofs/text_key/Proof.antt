@@ -1,0 +1,70 @@
+use borrow.Author.Needs.{needs}
+use native.Mathlib.Omega.{arith}
+use lib.ListN.{length}
+use Prim.Native.Nat.{_<_}
+use mathlib.Core.Path.{_≡_, ap, _∙_}
+use Rattle.decode.specs.Decode.{decodedFrom, stream}
+use Rattle.decode.specs.Same.{keyFrom, keyOf}
+use Rattle.decode.proofs.DecodeLaws.{stream-start, streamed-next, streamed-end, shorter, key-end, key-on}
+use Rattle.decode.proofs.text_key.Statement.{statement}
+use Rattle.decode.proofs.text_key.Tie as tie
+
+abbrev Inv-loop : tie.InvT-loop
+Inv-loop s at h₀ j₀ k₀ h j k = (h < 4294967296) × (keyFrom h (stream s j k) ≡ keyOf (decodedFrom s at))
+
+abbrev μ-loop : tie.MeasureT-loop
+μ-loop s at h₀ j₀ k₀ h j k = length (stream s j k)
+
+loop-holds : tie.Need-loop-holds Inv-loop μ-loop
+loop-holds c = (omega arith, ap keyOf (stream-start (c .before .args .s .now) (c .before .args .at)))
+
+next-byte-requires : tie.Need-next-byte-requires Inv-loop μ-loop
+next-byte-requires c κs = search needs
+
+enum-known-g : tie.Need-enum-known-g Inv-loop μ-loop
+enum-known-g c = search needs
+
+enum-told : tie.Need-enum-told Inv-loop μ-loop
+enum-told c = search needs
+
+cast-result : tie.Need-cast-result Inv-loop μ-loop
+cast-result c = omega arith
+
+returns : tie.Need-returns Inv-loop μ-loop
+returns c = key-end _ _ (streamed-end _ _ _ (c .before .before .next-byte .ensures) (c .enum-told .given .1)) ∙ (c .before .before .before .loop .inv .1)
+
+mul-h : tie.Need-mul-h Inv-loop μ-loop
+mul-h c = omega arith
+
+cast-h : tie.Need-cast-h Inv-loop μ-loop
+cast-h c = omega arith
+
+add-h : tie.Need-add-h Inv-loop μ-loop
+add-h c = omega arith
+
+loop-less : tie.Need-loop-less Inv-loop μ-loop
+loop-less c = shorter _ _ _ (streamed-next _ _ _ (c .before .before .before .next-byte .ensures) _ _ _ (c .before .g .given .1))
+
+loop-again : tie.Need-loop-again Inv-loop μ-loop
+loop-again c = (
+  omega arith,
+  key-on _ _ _ _ (streamed-next _ _ _ (c .before .before .before .next-byte .ensures) _ _ _ (c .before .g .given .1)) ∙ (c .before .before .before .before .loop .inv .1),
+)
+
+pub text-key-spec : {M : Type 1} → statement M
+text-key-spec =
+    tie.close
+    (tie.spec
+    Inv-loop
+    μ-loop
+    loop-holds
+    next-byte-requires
+    enum-known-g
+    enum-told
+    cast-result
+    returns
+    mul-h
+    cast-h
+    add-h
+    loop-less
+    loop-again)

@@ -1,0 +1,4 @@
+pub mod Decode
+pub mod Same
+pub mod Utf8
+pub mod Meaning

@@ -1,0 +1,32 @@
+-- What the characters of a JSON string mean, in UTF-8 (ECMA-404, 9). proofs/Theorem.antt shows that a string's body means its decoded text.
+use mathlib.Core.Path.{_≡_}
+use mathlib.Core.List.{List, [], _∷_, _++_}
+use Prim.Native.Nat.{ℕ, _+_, _*_, _-_}
+use Rattle.grammar.specs.Grammar.{Between, Multibyte, CodeUnit}
+use Rattle.decode.specs.Decode.{utf8}
+use Rattle.decode.specs.Utf8.{Scalar}
+
+-- the letter of a short escape, and the character that it means
+pub data Letter : ℕ → ℕ → Type 0 where
+  quotation-mark : Letter 0x22 0x22
+  reverse-solidus : Letter 0x5C 0x5C
+  solidus : Letter 0x2F 0x2F
+  backspace : Letter 0x62 0x08
+  form-feed : Letter 0x66 0x0C
+  new-line : Letter 0x6E 0x0A
+  return : Letter 0x72 0x0D
+  tabulation : Letter 0x74 0x09
+
+-- one character, or one escape, and what it means
+pub data Meaning : List ℕ → List ℕ → Type 0 where
+  plain : {b : ℕ} → Between 0x20 0x7F b → (b ≡ 0x22 → ⊥) → (b ≡ 0x5C → ⊥) → Meaning (b ∷ []) (b ∷ [])
+  multibyte : {c : List ℕ} → Multibyte c → Meaning c c
+  short : {b p : ℕ} → Letter b p → Meaning (0x5C ∷ (b ∷ [])) (p ∷ [])
+  unit : {u : List ℕ} {n : ℕ} → CodeUnit u n → Scalar n → Meaning u (utf8 n)
+  surrogates : {u v : List ℕ} {n m : ℕ} → CodeUnit u n → Between 0xD800 0xDBFF n → CodeUnit v m → Between 0xDC00 0xDFFF m
+      → Meaning (u ++ v) (utf8 (0x10000 + (n - 0xD800) * 0x400 + (m - 0xDC00)))
+
+-- a string's characters, and the text that they mean
+pub data Means : List ℕ → List ℕ → Type 0 where
+  nothing : Means [] []
+  next : {c t cs ts : List ℕ} → Meaning c t → Means cs ts → Means (c ++ cs) (t ++ ts)

@@ -1,0 +1,12 @@
+pub mod Stands
+pub mod Derived
+pub mod Skips
+pub mod Numbers
+pub mod Strings
+pub mod Groups
+pub mod Values
+pub mod Theorem
+pub mod Depth
+pub mod SkipLaws
+pub mod SkipRead
+pub mod ItemLaws

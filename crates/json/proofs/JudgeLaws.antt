@@ -1,0 +1,45 @@
+-- The whole text: from what its value tells to the answer.
+use mathlib.Core.Path.{_≡_, refl, sym, ap, subst, _∙_}
+use mathlib.Core.Bool.{Bool, true, false, cond}
+use mathlib.Core.List.{List}
+use Prim.Native.Nat.{ℕ, _≤_, _<_}
+use native.Mathlib.Omega.{arith}
+use lib.ListN.{length}
+use borrow.Author.Tests.{lt-leb, le-leb}
+use Rattle.limits.specs.Limits.{nesting}
+use Rattle.tokens.specs.Text.{skipBlanks}
+use Rattle.tokens.specs.declared.Cursor.{Cursor}
+use Rattle.tokens.specs.declared.Read.{Read}
+use Rattle.tokens.specs.declared.Read.the-variants as R
+use Rattle.grammar.specs.Reading.{valueAt, isJson}
+use Rattle.json.specs.declared.Scan.{Scan}
+use Rattle.json.specs.declared.Scan.the-variants as S
+use Rattle.json.specs.declared.Judged.{Judged}
+use Rattle.json.specs.declared.Judged.the-variants.{Good, NotJson, BadMembers}
+use Rattle.json.specs.Names.{badMembersAt}
+use Rattle.json.specs.Judged.{scanned, judged}
+use Rattle.json.proofs.PassLaws.{scan-bad, scan-to}
+
+module _ (s : List ℕ) (i : ℕ) (ei : i ≡ skipBlanks s 0) (r : Scan) (er : r ≡ scanned (valueAt nesting s i) (badMembersAt nesting s i)) where
+  pub judge-none : r ≡ S.Bad → NotJson ≡ judged s
+  unfolding judged isJson
+  judge-none h = rw (← ei, scan-bad (valueAt nesting s i) (badMembersAt nesting s i) (sym h ∙ er))
+
+  module _ (c : Cursor) (bad : Bool) (h : r ≡ S.To c bad) (at : ℕ) (ea : at ≡ skipBlanks s (c .at)) where
+    value-is : valueAt nesting s i ≡ R.To c
+    value-is = scan-to (valueAt nesting s i) (badMembersAt nesting s i) c bad (sym h ∙ er) .0
+
+    bad-is : badMembersAt nesting s i ≡ bad
+    bad-is = scan-to (valueAt nesting s i) (badMembersAt nesting s i) c bad (sym h ∙ er) .1
+
+    pub judge-more : at < length s → NotJson ≡ judged s
+    unfolding judged isJson
+    judge-more l = rw (← ei, value-is, ← ea, lt-leb _ _ l)
+
+    pub judge-bad : length s ≤ at → bad ≡ true → BadMembers ≡ judged s
+    unfolding judged isJson
+    judge-bad l b = rw (← ei, value-is, ← ea, le-leb _ _ l, bad-is, b)
+
+    pub judge-good : length s ≤ at → bad ≡ false → Good ≡ judged s
+    unfolding judged isJson
+    judge-good l b = rw (← ei, value-is, ← ea, le-leb _ _ l, bad-is, b)

@@ -1,0 +1,4 @@
+pub mod SeenLaws
+pub mod ValueLaws
+pub mod PassLaws
+pub mod JudgeLaws

@@ -1,0 +1,91 @@
+use native.Mathlib.Omega.{arith}
+use lib.ListN.{length, getD, drop}
+use Prim.Native.Nat.{ℕ, _≤_, _<_, _-_, _+_, _*_}
+use mathlib.Core.Path.{_≡_, refl, sym, ap, _∙_}
+use mathlib.Core.List.{List, [], _∷_}
+use mathlib.Core.Bool.{Bool, true, false}
+use Rattle.decode.specs.Decode.{decodedFrom}
+use Rattle.json.specs.Names.{has}
+use Rattle.json.specs.Stack.{namesOn}
+use Rattle.json.proofs.JudgeLaws.{judge-none, judge-more, judge-bad, judge-good}
+use Rattle.tokens.proofs.TextLaws.{blanks-onward}
+use borrow.Author.Needs.{needs}
+use Rattle.json.proofs.values.judge_with.Statement.{statement}
+use Rattle.json.proofs.values.judge_with.Tie as tie
+use Rattle.json.proofs.values.judge_with.Reads as reads
+use Rattle.json.proofs.values.judge_with.Lts as lts
+use Rattle.json.proofs.values.value.Reads as value-reads
+use Rattle.tokens.proofs.Cursor.skip_blanks.Reads as skip-blanks-reads
+
+skip-blanks-requires : tie.Need-skip-blanks-requires
+skip-blanks-requires c κs = search needs
+
+value-requires : tie.Need-value-requires
+value-requires c κs = (omega (arith, (c .before .before .before .before .before .before .pre .0)), omega (arith, (c .before .before .before .before .before .before .pre .1)))
+
+enum-known-r : tie.Need-enum-known-r
+enum-known-r c = search needs
+
+enum-told : tie.Need-enum-told
+enum-told c = search needs
+
+same-length : tie.Need-same-length
+same-length c = search needs
+
+same-length-2 : tie.Need-same-length-2
+same-length-2 c = search needs
+
+returns : tie.Need-returns
+returns c = judge-none (c .before .before .before .before .before .before .before .before .before .before .before .before .before .args .s .now) _ (c .before .before .before .before .before .before .before .before .before .skip-blanks .ensures) _ (c .before .before .before .before .before .before .value .ensures .0) (c .enum-told .given .1)
+
+skip-blanks-requires-2 : tie.Need-skip-blanks-requires-2
+skip-blanks-requires-2 c κs = search needs
+
+same-length-3 : tie.Need-same-length-3
+same-length-3 c = search needs
+
+same-length-4 : tie.Need-same-length-4
+same-length-4 c = search needs
+
+returns-2 : tie.Need-returns-2
+returns-2 c = judge-more (c .before .before .before .before .before .before .before .before .before .before .before .before .before .before .before .before .args .s .now) _ (c .before .before .before .before .before .before .before .before .before .before .before .before .skip-blanks .ensures) _ (c .before .before .before .before .before .before .before .before .before .value .ensures .0) _ _ (c .before .before .before .r .given .1) _ (c .before .skip-blanks2 .ensures) (c .if1 .taken)
+
+same-length-5 : tie.Need-same-length-5
+same-length-5 c = search needs
+
+same-length-6 : tie.Need-same-length-6
+same-length-6 c = search needs
+
+returns-3 : tie.Need-returns-3
+returns-3 c = judge-bad (c .before .before .before .before .before .before .before .before .before .before .before .before .before .before .before .before .before .args .s .now) _ (c .before .before .before .before .before .before .before .before .before .before .before .before .before .skip-blanks .ensures) _ (c .before .before .before .before .before .before .before .before .before .before .value .ensures .0) _ _ (c .before .before .before .before .r .given .1) _ (c .before .before .skip-blanks2 .ensures) (c .before .if1 .left) (c .if2 .taken)
+
+same-length-7 : tie.Need-same-length-7
+same-length-7 c = search needs
+
+same-length-8 : tie.Need-same-length-8
+same-length-8 c = search needs
+
+returns-4 : tie.Need-returns-4
+returns-4 c = judge-good (c .before .before .before .before .before .before .before .before .before .before .before .before .before .before .before .before .before .args .s .now) _ (c .before .before .before .before .before .before .before .before .before .before .before .before .before .skip-blanks .ensures) _ (c .before .before .before .before .before .before .before .before .before .before .value .ensures .0) _ _ (c .before .before .before .before .r .given .1) _ (c .before .before .skip-blanks2 .ensures) (c .before .if1 .left) (c .if2 .left)
+
+pub judge-with-spec : {M : Type 1} → statement M
+judge-with-spec =
+    tie.close
+    (tie.spec
+    skip-blanks-requires
+    value-requires
+    enum-known-r
+    enum-told
+    same-length
+    same-length-2
+    returns
+    skip-blanks-requires-2
+    same-length-3
+    same-length-4
+    returns-2
+    same-length-5
+    same-length-6
+    returns-3
+    same-length-7
+    same-length-8
+    returns-4)

@@ -1,0 +1,28 @@
+-- A whole text: refusals 2 and 3 of document 01.
+use mathlib.Core.Bool.{Bool, true, false, cond}
+use mathlib.Core.List.{List}
+use Prim.Native.Nat.{ℕ, zero, suc}
+use Rattle.limits.specs.Limits.{nesting}
+use Rattle.tokens.specs.Text.{skipBlanks}
+use Rattle.tokens.specs.declared.Read.{Read}
+use Rattle.tokens.specs.declared.Read.the-variants as R
+use Rattle.grammar.specs.Reading.{isJson}
+use Rattle.json.specs.Names.{badMembersAt}
+use Rattle.json.specs.declared.Scan.{Scan}
+use Rattle.json.specs.declared.Scan.the-variants as S
+use Rattle.json.specs.declared.Judged.{Judged}
+use Rattle.json.specs.declared.Judged.the-variants.{Good, NotJson, BadMembers}
+
+-- what one pass tells of a reading and of the names in what was read
+abbrev pub scanned : Read → Bool → Scan
+scanned (R.To c) bad = S.To c bad
+scanned R.Bad bad = S.Bad
+
+unfoldable pub judged : List ℕ → Judged
+judged s = cond (isJson s) (cond (badMembersAt nesting s (skipBlanks s 0)) BadMembers Good) NotJson
+
+-- document 01's number for each answer
+abbrev pub refusalOf : Judged → ℕ
+refusalOf Good = 0
+refusalOf NotJson = 2
+refusalOf BadMembers = 3

@@ -1,0 +1,3 @@
+pub mod Names
+pub mod Judged
+pub mod Stack

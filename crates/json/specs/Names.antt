@@ -1,0 +1,49 @@
+-- Document 01, refusal 3: "some object, however deep, has a name twice or over 256 members". "Names [..] are judged after
+-- escapes are decoded".
+use mathlib.Core.Bool.{Bool, true, false, cond, _||_}
+use mathlib.Core.List.{List, [], _∷_, map}
+use Prim.Native.Nat.{ℕ, zero, suc}
+use lib.ListN.{length, getD}
+use lib.Dec.{eqb, ltb}
+use Rattle.limits.specs.Limits.{members}
+use Rattle.tokens.specs.Text.{byte}
+use Rattle.decode.specs.Decode.{decodedFrom}
+use Rattle.decode.specs.Same.{same}
+use Rattle.members.specs.declared.Member.{Member}
+use Rattle.members.specs.declared.Element.{Element}
+use Rattle.members.specs.Members.{membersAt, elementsAt}
+
+-- a member's name, decoded
+abbrev pub nameOf : List ℕ → Member → List ℕ
+nameOf s m = decodedFrom s (m .name)
+
+unfoldable pub has : List ℕ → List (List ℕ) → Bool
+has x [] = false
+has x (y ∷ l) = same x y || has x l
+
+-- one of the names stands among those before it
+unfoldable pub repeated : List (List ℕ) → List (List ℕ) → Bool
+repeated seen [] = false
+repeated seen (n ∷ l) = has n seen || repeated (n ∷ seen) l
+
+-- a name twice, or over 256 members
+unfoldable pub badNames : List (List ℕ) → Bool
+badNames names = repeated [] names || ltb members (length names)
+
+unfoldable pub any : {A : Type 0} → (A → Bool) → List A → Bool
+any f [] = false
+any f (x ∷ l) = f x || any f l
+
+-- an object has such names, or one of its values has such an object in it
+abbrev pub badObject : (ℕ → Bool) → List ℕ → List Member → Bool
+badObject bad s ms = badNames (map (nameOf s) ms) || any (λ m. bad (m .value)) ms
+
+abbrev pub badArray : (ℕ → Bool) → List Element → Bool
+badArray bad es = any (λ e. bad (e .at)) es
+
+-- the value at a place, which nests at most d deep, has such an object in it
+unfoldable pub badMembersAt : ℕ → List ℕ → ℕ → Bool
+badMembersAt zero s at = false
+badMembersAt (suc d) s at =
+    cond (eqb (byte s at) 0x5B) (badArray (badMembersAt d s) (elementsAt s at))
+    (cond (eqb (byte s at) 0x7B) (badObject (badMembersAt d s) s (membersAt s at)) false)

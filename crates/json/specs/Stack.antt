@@ -1,0 +1,52 @@
+-- For the code: the names of the open objects, kept by place and key in lent memory.
+use mathlib.Core.Path.{_≡_}
+use mathlib.Core.Bool.{Bool, true, false, _||_}
+use mathlib.Core.List.{List, [], _∷_}
+use Prim.Native.Nat.{ℕ, zero, suc, _+_, _*_, _-_, _≤_, _<_, min}
+use lib.ListN.{length, getD, take, set}
+use lib.Dec.{leb}
+use Rattle.limits.specs.Limits.{members}
+use Rattle.decode.specs.Decode.{decodedFrom}
+use Rattle.decode.specs.Same.{keyOf}
+use Rattle.tokens.specs.Text.{skipBlanks}
+use Rattle.json.specs.declared.Names.{Names}
+use Rattle.members.specs.Members.{membersFrom, elementsFrom}
+use Rattle.json.specs.Names.{has, badArray, badObject, badMembersAt}
+
+-- the n names from a base on, the last one first
+unfoldable pub namesOn : List ℕ → List ℕ → ℕ → ℕ → List (List ℕ)
+namesOn s places base zero = []
+namesOn s places base (suc n) = decodedFrom s (getD places (base + n) 0) ∷ namesOn s places base n
+
+-- each of them has its key
+unfoldable pub KeysAgree : List ℕ → List ℕ → List ℕ → ℕ → ℕ → Type 0
+KeysAgree s places keys base n = (k : ℕ) → k < n → getD keys (base + k) 0 ≡ keyOf (decodedFrom s (getD places (base + k) 0))
+
+-- a name is kept: it is counted and stands on top with its key; or it is not, and nothing changes but what is noted
+unfoldable pub refuses : List ℕ → List ℕ → ℕ → ℕ → ℕ → Bool
+refuses s places base n at = leb members n || has (decodedFrom s at) (namesOn s places base n)
+
+pub data NameKept (s : List ℕ) (at base : ℕ) (names : Names) (places keys : List ℕ) : Names → List ℕ → List ℕ → Type 0 where
+  kept : refuses s places base (names .count) at ≡ false
+      → NameKept s at base names places keys (record { count = names .count + 1; bad = names .bad })
+      (set places (base + names .count) at) (set keys (base + names .count) (keyOf (decodedFrom s at)))
+  refused : refuses s places base (names .count) at ≡ true
+      → NameKept s at base names places keys (record { count = names .count; bad = true }) places keys
+
+-- from past the opening byte of an array, and of an object
+unfoldable pub badArrayAt : ℕ → List ℕ → ℕ → Bool
+badArrayAt zero s at = false
+badArrayAt (suc d) s at = badArray (badMembersAt d s) (elementsFrom s (skipBlanks s at))
+
+unfoldable pub badObjectAt : ℕ → List ℕ → ℕ → Bool
+badObjectAt zero s at = false
+badObjectAt (suc d) s at = badObject (badMembersAt d s) s (membersFrom s (skipBlanks s at))
+
+-- the first elements are as they were
+pub record Kept (used : ℕ) (old new : List ℕ) : Type 0 where
+  pub same : take used new ≡ take used old
+  pub long : length new ≡ length old
+
+-- room for the names that a value can have open at once: of d levels, and at most one for each byte left
+abbrev pub Room : ℕ → List ℕ → ℕ → ℕ → ℕ → Type 0
+Room d s at used room = used + min (members * d) (length s - at) ≤ room

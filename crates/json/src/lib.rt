@@ -1,0 +1,61 @@
+// A JSON text judged as a whole, in one pass: its grammar, and the names in its objects.
+mod seen;
+mod values;
+
+ghost use mathlib.Core.Path.{_≡_};
+ghost use Prim.Native.Nat.{_≤_};
+ghost use lib.ListN.{length};
+ghost use Rattle.json.specs.Judged.{judged};
+use crate::values::judge_with;
+use limits::Limits;
+
+// A text is good, or no JSON nested to the limit, or has an object with a name twice or too many members.
+pub enum Judged {
+    Good,
+    NotJson,
+    BadMembers,
+}
+
+// A value ends at the cursor, and whether some object in it has a name twice or too many members; or there is no value.
+pub enum Scan {
+    To(tokens::Cursor, bool),
+    Bad,
+}
+
+// How many names of an object are kept, and whether the object, or one in it, has a name twice or too many members.
+pub struct Names {
+    pub count: usize,
+    pub bad: bool,
+}
+
+// Names of all open objects, at the limits of nesting and of members.
+const NAMES: usize = Limits::NESTING * Limits::MEMBERS;
+
+// A text of this length has no more names than bytes, and needs no more room for them.
+const SHORT: usize = 1024;
+
+pub fn judge(s: &[u8]) -> Judged
+    ensures { λ r. ⌜ r ≡ judged (now (s .entry)) ⌝ }
+{
+    if s.len() <= SHORT {
+        return judge_short(s);
+    }
+    judge_long(s)
+}
+
+fn judge_short(s: &[u8]) -> Judged
+    requires { ⌜ length (now s) ≤ 1024 ⌝ }
+    ensures { λ r. ⌜ r ≡ judged (now (s .entry)) ⌝ }
+{
+    let mut places = [0usize; SHORT];
+    let mut keys = [0u32; SHORT];
+    judge_with(s, &mut places, &mut keys)
+}
+
+fn judge_long(s: &[u8]) -> Judged
+    ensures { λ r. ⌜ r ≡ judged (now (s .entry)) ⌝ }
+{
+    let mut places = [0usize; NAMES];
+    let mut keys = [0u32; NAMES];
+    judge_with(s, &mut places, &mut keys)
+}

@@ -1,0 +1,4 @@
+pub mod WalkLaws
+pub mod GatherLaws
+pub mod StepLaws
+pub mod Theorem

@@ -1,0 +1,40 @@
+use native.Mathlib.Omega.{arith}
+use lib.ListN.{length, getD, drop}
+use Prim.Native.Nat.{ℕ, _≤_, _<_, _-_, _+_, _*_}
+use mathlib.Core.Path.{_≡_, refl, sym, ap, _∙_}
+use mathlib.Core.List.{List, [], _∷_}
+use borrow.Author.Tests.{eq-eqb, ne-eqb}
+use Rattle.grammar.specs.Skip.{skipString, opens, closes, skipOpen, scalar, skipValue}
+use Rattle.tokens.specs.Text.{byte, blank, skipWhile}
+use Rattle.tokens.proofs.TextLaws.{inside, good-inside, skip-on, skip-out}
+use Rattle.members.proofs.WalkLaws.{next-comma, next-close}
+use borrow.Author.Needs.{needs}
+use Rattle.members.proofs.next_item.Statement.{statement}
+use Rattle.members.proofs.next_item.Tie as tie
+use Rattle.members.proofs.next_item.Reads as reads
+use Rattle.members.proofs.next_item.Lts as lts
+use Rattle.tokens.proofs.Cursor.skip_blanks.Reads as skip-blanks-reads
+use Rattle.tokens.proofs.peek.Reads as peek-reads
+
+skip-blanks-requires : tie.Need-skip-blanks-requires
+skip-blanks-requires c κs = search needs
+
+peek-requires : tie.Need-peek-requires
+peek-requires c κs = search needs
+
+add-t9 : tie.Need-add-t9
+add-t9 c = omega (arith, inside (c .before .before .before .before .args .s .now) (c .before .before .skip-blanks .result .at) _ (c .before .peek .ensures) (omega arith))
+
+skip-blanks-requires-2 : tie.Need-skip-blanks-requires-2
+skip-blanks-requires-2 c κs = search needs
+
+returns : tie.Need-returns
+returns c = next-comma _ _ _ _ (c .before .before .before .skip-blanks .ensures) (c .before .before .peek .ensures) _ (c .before .if1 .taken) (c .skip-blanks2 .ensures)
+
+returns-2 : tie.Need-returns-2
+returns-2 c = next-close _ _ _ _ (c .before .before .skip-blanks .ensures) (c .before .peek .ensures) (c .if1 .left)
+
+pub next-item-spec : {M : Type 1} → statement M
+next-item-spec =
+    tie.close
+    (tie.spec skip-blanks-requires peek-requires add-t9 skip-blanks-requires-2 returns returns-2)

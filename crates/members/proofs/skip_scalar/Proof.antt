@@ -1,0 +1,58 @@
+use borrow.Author.Needs.{needs}
+use native.Mathlib.Omega.{arith}
+use lib.ListN.{length, getD, drop}
+use Prim.Native.Nat.{ℕ, _≤_, _<_, _-_, _+_, _*_}
+use mathlib.Core.Path.{_≡_, refl, sym, ap, _∙_}
+use mathlib.Core.List.{List, [], _∷_}
+use borrow.Author.Tests.{eq-eqb, ne-eqb}
+use Rattle.grammar.specs.Skip.{skipString, opens, closes, skipOpen, scalar, skipValue}
+use Rattle.tokens.specs.Text.{byte, blank, skipWhile}
+use Rattle.tokens.proofs.TextLaws.{inside, good-inside, skip-on, skip-out}
+use Rattle.grammar.proofs.SkipLaws.{no-scalar}
+use Rattle.members.proofs.skip_scalar.Statement.{statement}
+use Rattle.members.proofs.skip_scalar.Tie as tie
+use Rattle.members.proofs.skip_scalar.Reads as reads
+use Rattle.members.proofs.skip_scalar.Lts as lts
+use Rattle.members.proofs.is_scalar.Reads as is-scalar-reads
+use Rattle.tokens.proofs.peek.Reads as peek-reads
+
+abbrev Inv-loop : tie.InvT-loop
+Inv-loop s at i₀ i = skipWhile scalar s i ≡ skipWhile scalar s i₀
+
+abbrev μ-loop : tie.MeasureT-loop
+μ-loop s at i₀ i = length s - i
+
+loop-holds : tie.Need-loop-holds Inv-loop μ-loop
+loop-holds c = refl
+
+peek-requires : tie.Need-peek-requires Inv-loop μ-loop
+peek-requires c κs = search needs
+
+is-scalar-requires : tie.Need-is-scalar-requires Inv-loop μ-loop
+is-scalar-requires c κs = search needs
+
+add-i : tie.Need-add-i Inv-loop μ-loop
+add-i c = omega (arith, good-inside scalar no-scalar (c .before .before .before .before .before .args .s .now) (c .before .before .before .loop .i) _ (c .before .before .peek .ensures) (sym (c .before .is-scalar .ensures) ∙ (c .if1 .taken)))
+
+loop-less : tie.Need-loop-less Inv-loop μ-loop
+loop-less c = omega (arith, good-inside scalar no-scalar (c .before .before .before .before .before .args .s .now) (c .before .before .before .loop .i) _ (c .before .before .peek .ensures) (sym (c .before .is-scalar .ensures) ∙ (c .if1 .taken)))
+
+loop-again : tie.Need-loop-again Inv-loop μ-loop
+loop-again c = skip-on scalar no-scalar (c .before .before .before .before .before .args .s .now) (c .before .before .before .loop .i) _ (c .before .before .peek .ensures) (sym (c .before .is-scalar .ensures) ∙ (c .if1 .taken)) ∙ (c .before .before .before .loop .inv)
+
+returns : tie.Need-returns Inv-loop μ-loop
+returns c = skip-out scalar no-scalar (c .before .before .before .before .before .args .s .now) (c .before .before .before .loop .i) _ (c .before .before .peek .ensures) (sym (c .before .is-scalar .ensures) ∙ (c .if1 .left)) ∙ (c .before .before .before .loop .inv)
+
+pub skip-scalar-spec : {M : Type 1} → statement M
+skip-scalar-spec =
+    tie.close
+    (tie.spec
+    Inv-loop
+    μ-loop
+    loop-holds
+    peek-requires
+    is-scalar-requires
+    add-i
+    loop-less
+    loop-again
+    returns)

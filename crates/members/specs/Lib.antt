@@ -1,0 +1,3 @@
+pub mod Gather
+pub mod Members
+pub mod Derivation

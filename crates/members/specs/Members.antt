@@ -1,0 +1,56 @@
+-- The members of the object, and the elements of the array, whose opening byte stands at a place. Values are passed by their
+-- brackets and quotes; in a text that is JSON these are the members and elements of its derivation (proofs/Theorem.antt).
+use mathlib.Core.Bool.{Bool, true, false, cond}
+use mathlib.Core.List.{List, [], _∷_}
+use Prim.Native.Nat.{ℕ, _+_, _-_}
+use lib.ListN.{getD}
+use lib.Dec.{eqb, ltb}
+use Rattle.tokens.specs.Text.{byte, skipBlanks}
+use Rattle.tokens.specs.Group.{colonAt}
+use Rattle.tokens.specs.declared.Read.{Read}
+use Rattle.tokens.specs.declared.Read.the-variants as R
+use Rattle.grammar.specs.Skip.{skipString, skipValue}
+use Rattle.members.specs.declared.Member.{Member}
+use Rattle.members.specs.declared.Element.{Element}
+use Rattle.members.specs.declared.MemberStep.{MemberStep}
+use Rattle.members.specs.declared.MemberStep.the-variants as M
+use Rattle.members.specs.declared.ElementStep.{ElementStep}
+use Rattle.members.specs.declared.ElementStep.the-variants as E
+use Rattle.members.specs.Gather.{Step, found, stop, gather}
+
+-- after an item: past a comma and blanks, or at the close
+unfoldable pub nextItem : List ℕ → ℕ → ℕ
+nextItem s at = cond (eqb (byte s (skipBlanks s at)) 0x2C) (skipBlanks s (skipBlanks s at + 1)) (skipBlanks s at)
+
+-- a name that begins at a place and ends before e, with the value that a colon leads to
+abbrev pub memberTo : List ℕ → ℕ → ℕ → Read → MemberStep
+memberTo s at e (R.To v) = M.Found (record { name = at + 1; quote = e - 1; value = v .at; end = skipValue s (v .at) }) (nextItem s (skipValue s (v .at)))
+memberTo s at e R.Bad = M.End
+
+unfoldable pub memberStep : List ℕ → ℕ → MemberStep
+memberStep s at = cond (eqb (byte s at) 0x22) (memberTo s at (skipString s (at + 1)) (colonAt s (skipString s (at + 1)))) M.End
+
+unfoldable pub elementStep : List ℕ → ℕ → ElementStep
+elementStep s at = cond (ltb at (skipValue s at)) (E.Found (record { at = at; end = skipValue s at }) (nextItem s (skipValue s at))) E.End
+
+abbrev pub memberFound : MemberStep → Step Member
+memberFound (M.Found m j) = found m j
+memberFound M.End = stop
+
+abbrev pub elementFound : ElementStep → Step Element
+elementFound (E.Found e j) = found e j
+elementFound E.End = stop
+
+-- from the first one, or the close, on
+abbrev pub membersFrom : List ℕ → ℕ → List Member
+membersFrom s at = gather s (λ i. memberFound (memberStep s i)) at
+
+abbrev pub elementsFrom : List ℕ → ℕ → List Element
+elementsFrom s at = gather s (λ i. elementFound (elementStep s i)) at
+
+-- of the object and of the array at a place
+abbrev pub membersAt : List ℕ → ℕ → List Member
+membersAt s at = membersFrom s (skipBlanks s (at + 1))
+
+abbrev pub elementsAt : List ℕ → ℕ → List Element
+elementsAt s at = elementsFrom s (skipBlanks s (at + 1))

@@ -1,0 +1,33 @@
+use native.Mathlib.Omega.{arith}
+use lib.ListN.{length, getD, drop}
+use Prim.Native.Nat.{ℕ, _≤_, _<_, _-_, _+_, _*_}
+use mathlib.Core.Path.{_≡_, refl, sym, ap, _∙_}
+use mathlib.Core.List.{List, [], _∷_}
+use borrow.Author.Tests.{eq-eqb, ne-eqb}
+use Rattle.tokens.specs.Text.{byte, blank, within, skipBlanks, literalAt}
+use Rattle.tokens.proofs.TextLaws.{inside, within-is, byte-to, byte-bad}
+use borrow.Author.Needs.{needs}
+use Rattle.tokens.proofs.Cursor.byte_within.Statement.{statement}
+use Rattle.tokens.proofs.Cursor.byte_within.Tie as tie
+use Rattle.tokens.proofs.Cursor.byte_within.Reads as reads
+use Rattle.tokens.proofs.Cursor.byte_within.Lts as lts
+use Rattle.tokens.proofs.is_within.Reads as is-within-reads
+use Rattle.tokens.proofs.peek.Reads as peek-reads
+
+peek-requires : tie.Need-peek-requires
+peek-requires c κs = search needs
+
+is-within-requires : tie.Need-is-within-requires
+is-within-requires c κs = search needs
+
+add-t8 : tie.Need-add-t8
+add-t8 c = let h = within-is _ _ _ (sym (c .before .is-within .ensures) ∙ (c .if1 .taken)) .0 in let p = (c .before .before .before .before .pre) in omega (arith, inside (c .before .before .before .before .args .s .now) (c .before .before .before .before .args .self .at) _ (c .before .before .peek .ensures) (omega arith))
+
+returns : tie.Need-returns
+returns c = byte-to _ _ _ _ _ (c .before .before .peek .ensures) (sym (c .before .is-within .ensures) ∙ (c .if1 .taken))
+
+returns-2 : tie.Need-returns-2
+returns-2 c = byte-bad _ _ _ _ _ (c .before .before .peek .ensures) (sym (c .before .is-within .ensures) ∙ (c .if1 .left))
+
+pub byte-within-spec : {M : Type 1} → statement M
+byte-within-spec = tie.close (tie.spec peek-requires is-within-requires add-t8 returns returns-2)

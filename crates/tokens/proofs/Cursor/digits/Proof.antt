@@ -1,0 +1,41 @@
+use native.Mathlib.Omega.{arith}
+use lib.ListN.{length, getD, drop}
+use Prim.Native.Nat.{ℕ, _≤_, _<_, _-_, _+_, _*_}
+use mathlib.Core.Path.{_≡_, refl, sym, ap, _∙_}
+use mathlib.Core.List.{List, [], _∷_}
+use borrow.Author.Tests.{eq-eqb, ne-eqb}
+use Rattle.tokens.specs.Text.{byte, blank, within, skipBlanks, literalAt}
+use Rattle.tokens.proofs.TextLaws.{good-inside}
+use Rattle.tokens.proofs.NumberLaws.{no-digit, digits-to, digits-bad}
+use Rattle.tokens.specs.Number.{digit}
+use borrow.Author.Needs.{needs}
+use Rattle.tokens.proofs.Cursor.digits.Statement.{statement}
+use Rattle.tokens.proofs.Cursor.digits.Tie as tie
+use Rattle.tokens.proofs.Cursor.digits.Reads as reads
+use Rattle.tokens.proofs.Cursor.digits.Lts as lts
+use Rattle.tokens.proofs.Cursor.skip_digits.Reads as skip-digits-reads
+use Rattle.tokens.proofs.is_within.Reads as is-within-reads
+use Rattle.tokens.proofs.peek.Reads as peek-reads
+
+peek-requires : tie.Need-peek-requires
+peek-requires c κs = search needs
+
+is-within-requires : tie.Need-is-within-requires
+is-within-requires c κs = search needs
+
+add-t7 : tie.Need-add-t7
+add-t7 c = omega (arith, good-inside digit no-digit (c .before .before .before .before .args .s .now) (c .before .before .before .before .args .self .at) _ (c .before .before .peek .ensures) (sym (c .before .is-within .ensures) ∙ (c .if1 .taken)))
+
+skip-digits-requires : tie.Need-skip-digits-requires
+skip-digits-requires c κs = search needs
+
+returns : tie.Need-returns
+returns c = digits-to _ _ _ (c .before .before .before .peek .ensures) _ (sym (c .before .before .is-within .ensures) ∙ (c .before .if1 .taken)) (c .skip-digits .ensures)
+
+returns-2 : tie.Need-returns-2
+returns-2 c = digits-bad _ _ _ (c .before .before .peek .ensures) (sym (c .before .is-within .ensures) ∙ (c .if1 .left))
+
+pub digits-spec : {M : Type 1} → statement M
+digits-spec =
+    tie.close
+    (tie.spec peek-requires is-within-requires add-t7 skip-digits-requires returns returns-2)

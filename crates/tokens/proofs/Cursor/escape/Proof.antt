@@ -1,0 +1,55 @@
+use native.Mathlib.Omega.{arith}
+use lib.ListN.{length, getD, drop}
+use Prim.Native.Nat.{ℕ, _≤_, _<_, _-_, _+_, _*_}
+use mathlib.Core.Path.{_≡_, refl, sym, ap, _∙_}
+use mathlib.Core.List.{List, [], _∷_}
+use borrow.Author.Tests.{eq-eqb, ne-eqb}
+use Rattle.tokens.specs.Text.{byte, blank, within, skipBlanks, literalAt}
+use Rattle.tokens.proofs.TextLaws.{inside, good-inside}
+use Rattle.tokens.proofs.StringLaws.{no-short, escape-short, escape-unicode, escape-bad}
+use Rattle.tokens.specs.String.{shortEscape}
+use borrow.Author.Needs.{needs}
+use Rattle.tokens.proofs.Cursor.escape.Statement.{statement}
+use Rattle.tokens.proofs.Cursor.escape.Tie as tie
+use Rattle.tokens.proofs.Cursor.escape.Reads as reads
+use Rattle.tokens.proofs.Cursor.escape.Lts as lts
+use Rattle.tokens.proofs.Cursor.unicode_escape.Reads as unicode-escape-reads
+use Rattle.tokens.proofs.peek.Reads as peek-reads
+use Rattle.tokens.proofs.string.is_short_escape.Reads as is-short-escape-reads
+
+peek-requires : tie.Need-peek-requires
+peek-requires c κs = search needs
+
+is-short-escape-requires : tie.Need-is-short-escape-requires
+is-short-escape-requires c κs = search needs
+
+add-t6 : tie.Need-add-t6
+add-t6 c = omega (arith, good-inside shortEscape no-short (c .before .before .before .before .args .s .now) (c .before .before .before .before .args .self .at) _ (c .before .before .peek .ensures) (sym (c .before .is-short-escape .ensures) ∙ (c .if1 .taken)))
+
+returns : tie.Need-returns
+returns c = escape-short _ _ _ (c .before .before .peek .ensures) (sym (c .before .is-short-escape .ensures) ∙ (c .if1 .taken))
+
+add-t9 : tie.Need-add-t9
+add-t9 c = omega (arith, inside (c .before .before .before .before .before .args .s .now) (c .before .before .before .before .before .args .self .at) _ (c .before .before .before .peek .ensures) (omega arith))
+
+unicode-escape-requires : tie.Need-unicode-escape-requires
+unicode-escape-requires c κs = search needs
+
+returns-2 : tie.Need-returns-2
+returns-2 c = escape-unicode _ _ _ (c .before .before .before .before .peek .ensures) _ (sym (c .before .before .before .is-short-escape .ensures) ∙ (c .before .before .if1 .left)) (c .before .if2 .taken) (c .unicode-escape .ensures)
+
+returns-3 : tie.Need-returns-3
+returns-3 c = escape-bad _ _ _ (c .before .before .before .peek .ensures) (sym (c .before .before .is-short-escape .ensures) ∙ (c .before .if1 .left)) (c .if2 .left)
+
+pub escape-spec : {M : Type 1} → statement M
+escape-spec =
+    tie.close
+    (tie.spec
+    peek-requires
+    is-short-escape-requires
+    add-t6
+    returns
+    add-t9
+    unicode-escape-requires
+    returns-2
+    returns-3)

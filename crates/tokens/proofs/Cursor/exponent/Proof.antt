@@ -1,0 +1,62 @@
+use native.Mathlib.Omega.{arith}
+use lib.ListN.{length, getD, drop}
+use Prim.Native.Nat.{ℕ, _≤_, _<_, _-_, _+_, _*_}
+use mathlib.Core.Path.{_≡_, refl, sym, ap, _∙_}
+use mathlib.Core.List.{List, [], _∷_}
+use borrow.Author.Tests.{eq-eqb, ne-eqb}
+use Rattle.tokens.specs.Text.{byte, blank, within, skipBlanks, literalAt}
+use Rattle.tokens.proofs.TextLaws.{inside}
+use Rattle.tokens.proofs.NumberLaws.{exponent-low, exponent-up, exponent-none}
+use borrow.Author.Needs.{needs}
+use Rattle.tokens.proofs.Cursor.exponent.Statement.{statement}
+use Rattle.tokens.proofs.Cursor.exponent.Tie as tie
+use Rattle.tokens.proofs.Cursor.exponent.Reads as reads
+use Rattle.tokens.proofs.Cursor.exponent.Lts as lts
+use Rattle.tokens.proofs.Cursor.digits.Reads as digits-reads
+use Rattle.tokens.proofs.Cursor.skip_sign.Reads as skip-sign-reads
+use Rattle.tokens.proofs.peek.Reads as peek-reads
+
+peek-requires : tie.Need-peek-requires
+peek-requires c κs = search needs
+
+add-t8 : tie.Need-add-t8
+add-t8 c = omega (arith, inside (c .before .before .before .args .s .now) (c .before .before .before .args .self .at) _ (c .before .peek .ensures) (omega arith))
+
+skip-sign-requires : tie.Need-skip-sign-requires
+skip-sign-requires c κs = search needs
+
+digits-requires : tie.Need-digits-requires
+digits-requires c κs = search needs
+
+returns : tie.Need-returns
+returns c = exponent-low _ _ _ (c .before .before .before .peek .ensures) _ (c .before .skip-sign .ensures) _ (c .digits .ensures) (c .before .before .if1 .taken)
+
+add-t10 : tie.Need-add-t10
+add-t10 c = omega (arith, inside (c .before .before .before .before .args .s .now) (c .before .before .before .before .args .self .at) _ (c .before .before .peek .ensures) (omega arith))
+
+skip-sign-requires-2 : tie.Need-skip-sign-requires-2
+skip-sign-requires-2 c κs = search needs
+
+digits-requires-2 : tie.Need-digits-requires-2
+digits-requires-2 c κs = search needs
+
+returns-2 : tie.Need-returns-2
+returns-2 c = exponent-up _ _ _ (c .before .before .before .before .peek .ensures) _ (c .before .skip-sign2 .ensures) _ (c .digits2 .ensures) (c .before .before .before .if1 .left) (c .before .before .if2 .taken)
+
+returns-3 : tie.Need-returns-3
+returns-3 c = exponent-none _ _ _ (c .before .before .peek .ensures) (c .before .if1 .left) (c .if2 .left)
+
+pub exponent-spec : {M : Type 1} → statement M
+exponent-spec =
+    tie.close
+    (tie.spec
+    peek-requires
+    add-t8
+    skip-sign-requires
+    digits-requires
+    returns
+    add-t10
+    skip-sign-requires-2
+    digits-requires-2
+    returns-2
+    returns-3)

@@ -1,0 +1,34 @@
+use native.Mathlib.Omega.{arith}
+use lib.ListN.{length, getD, drop}
+use Prim.Native.Nat.{ℕ, _≤_, _<_, _-_, _+_, _*_}
+use mathlib.Core.Path.{_≡_, refl, sym, ap, _∙_}
+use mathlib.Core.List.{List, [], _∷_}
+use borrow.Author.Tests.{eq-eqb, ne-eqb}
+use Rattle.tokens.specs.Text.{byte, blank, within, skipBlanks, literalAt}
+use Rattle.tokens.proofs.TextLaws.{inside}
+use Rattle.tokens.proofs.NumberLaws.{fraction-some, fraction-none}
+use borrow.Author.Needs.{needs}
+use Rattle.tokens.proofs.Cursor.fraction.Statement.{statement}
+use Rattle.tokens.proofs.Cursor.fraction.Tie as tie
+use Rattle.tokens.proofs.Cursor.fraction.Reads as reads
+use Rattle.tokens.proofs.Cursor.fraction.Lts as lts
+use Rattle.tokens.proofs.Cursor.digits.Reads as digits-reads
+use Rattle.tokens.proofs.peek.Reads as peek-reads
+
+peek-requires : tie.Need-peek-requires
+peek-requires c κs = search needs
+
+add-t6 : tie.Need-add-t6
+add-t6 c = omega (arith, inside (c .before .before .before .args .s .now) (c .before .before .before .args .self .at) _ (c .before .peek .ensures) (omega arith))
+
+digits-requires : tie.Need-digits-requires
+digits-requires c κs = search needs
+
+returns : tie.Need-returns
+returns c = fraction-some _ _ _ (c .before .before .peek .ensures) _ (c .before .if1 .taken) (c .digits .ensures)
+
+returns-2 : tie.Need-returns-2
+returns-2 c = fraction-none _ _ _ (c .before .peek .ensures) (c .if1 .left)
+
+pub fraction-spec : {M : Type 1} → statement M
+fraction-spec = tie.close (tie.spec peek-requires add-t6 digits-requires returns returns-2)

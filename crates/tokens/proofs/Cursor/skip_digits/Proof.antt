@@ -1,0 +1,58 @@
+use borrow.Author.Needs.{needs}
+use native.Mathlib.Omega.{arith}
+use lib.ListN.{length, getD, drop}
+use Prim.Native.Nat.{ℕ, _≤_, _<_, _-_, _+_, _*_}
+use mathlib.Core.Path.{_≡_, refl, sym, ap, _∙_}
+use mathlib.Core.List.{List, [], _∷_}
+use borrow.Author.Tests.{eq-eqb, ne-eqb}
+use Rattle.tokens.specs.Text.{byte, blank, within, skipBlanks, literalAt}
+use Rattle.tokens.specs.Number.{digit, skipDigits}
+use Rattle.tokens.proofs.TextLaws.{good-inside, skip-on, skip-out}
+use Rattle.tokens.proofs.NumberLaws.{no-digit}
+use Rattle.tokens.proofs.Cursor.skip_digits.Statement.{statement}
+use Rattle.tokens.proofs.Cursor.skip_digits.Tie as tie
+use Rattle.tokens.proofs.Cursor.skip_digits.Reads as reads
+use Rattle.tokens.proofs.Cursor.skip_digits.Lts as lts
+use Rattle.tokens.proofs.is_within.Reads as is-within-reads
+use Rattle.tokens.proofs.peek.Reads as peek-reads
+
+abbrev Inv-loop : tie.InvT-loop
+Inv-loop s i₀ i = skipDigits s i ≡ skipDigits s i₀
+
+abbrev μ-loop : tie.MeasureT-loop
+μ-loop s i₀ i = length s - i
+
+loop-holds : tie.Need-loop-holds Inv-loop μ-loop
+loop-holds c = refl
+
+peek-requires : tie.Need-peek-requires Inv-loop μ-loop
+peek-requires c κs = search needs
+
+is-within-requires : tie.Need-is-within-requires Inv-loop μ-loop
+is-within-requires c κs = search needs
+
+add-i : tie.Need-add-i Inv-loop μ-loop
+add-i c = omega (arith, good-inside digit no-digit (c .before .before .before .before .before .args .s .now) (c .before .before .before .loop .i) _ (c .before .before .peek .ensures) (sym (c .before .is-within .ensures) ∙ (c .if1 .taken)))
+
+loop-less : tie.Need-loop-less Inv-loop μ-loop
+loop-less c = omega (arith, good-inside digit no-digit (c .before .before .before .before .before .args .s .now) (c .before .before .before .loop .i) _ (c .before .before .peek .ensures) (sym (c .before .is-within .ensures) ∙ (c .if1 .taken)))
+
+loop-again : tie.Need-loop-again Inv-loop μ-loop
+loop-again c = skip-on digit no-digit (c .before .before .before .before .before .args .s .now) (c .before .before .before .loop .i) _ (c .before .before .peek .ensures) (sym (c .before .is-within .ensures) ∙ (c .if1 .taken)) ∙ (c .before .before .before .loop .inv)
+
+returns : tie.Need-returns Inv-loop μ-loop
+returns c = skip-out digit no-digit (c .before .before .before .before .before .args .s .now) (c .before .before .before .loop .i) _ (c .before .before .peek .ensures) (sym (c .before .is-within .ensures) ∙ (c .if1 .left)) ∙ (c .before .before .before .loop .inv)
+
+pub skip-digits-spec : {M : Type 1} → statement M
+skip-digits-spec =
+    tie.close
+    (tie.spec
+    Inv-loop
+    μ-loop
+    loop-holds
+    peek-requires
+    is-within-requires
+    add-i
+    loop-less
+    loop-again
+    returns)

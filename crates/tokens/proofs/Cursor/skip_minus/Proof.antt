@@ -1,0 +1,30 @@
+use native.Mathlib.Omega.{arith}
+use lib.ListN.{length, getD, drop}
+use Prim.Native.Nat.{ℕ, _≤_, _<_, _-_, _+_, _*_}
+use mathlib.Core.Path.{_≡_, refl, sym, ap, _∙_}
+use mathlib.Core.List.{List, [], _∷_}
+use borrow.Author.Tests.{eq-eqb, ne-eqb}
+use Rattle.tokens.specs.Text.{byte, blank, within, skipBlanks, literalAt}
+use Rattle.tokens.proofs.TextLaws.{inside}
+use Rattle.tokens.proofs.NumberLaws.{minus-one, minus-none}
+use borrow.Author.Needs.{needs}
+use Rattle.tokens.proofs.Cursor.skip_minus.Statement.{statement}
+use Rattle.tokens.proofs.Cursor.skip_minus.Tie as tie
+use Rattle.tokens.proofs.Cursor.skip_minus.Reads as reads
+use Rattle.tokens.proofs.Cursor.skip_minus.Lts as lts
+use Rattle.tokens.proofs.peek.Reads as peek-reads
+
+peek-requires : tie.Need-peek-requires
+peek-requires c κs = search needs
+
+add-t6 : tie.Need-add-t6
+add-t6 c = omega (arith, inside (c .before .before .before .args .s .now) (c .before .before .before .args .self .at) _ (c .before .peek .ensures) (omega arith))
+
+returns : tie.Need-returns
+returns c = minus-one _ _ _ (c .before .peek .ensures) (c .if1 .taken)
+
+returns-2 : tie.Need-returns-2
+returns-2 c = minus-none _ _ _ (c .before .peek .ensures) (c .if1 .left)
+
+pub skip-minus-spec : {M : Type 1} → statement M
+skip-minus-spec = tie.close (tie.spec peek-requires add-t6 returns returns-2)

@@ -1,0 +1,5 @@
+pub mod RunLaws
+pub mod TextLaws
+pub mod StringLaws
+pub mod NumberLaws
+pub mod GroupLaws

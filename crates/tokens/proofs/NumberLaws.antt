@@ -1,0 +1,135 @@
+-- Steps of the definitions of specs/Number.antt, on plain variables.
+use mathlib.Core.Path.{_≡_, refl, sym, ap, subst, _∙_}
+use mathlib.Core.Bool.{Bool, true, false, cond}
+use mathlib.Core.List.{List, [], _∷_}
+use Prim.Native.Nat.{ℕ, zero, suc, _≤_, _<_, _+_, _-_}
+use native.Mathlib.Omega.{arith}
+use lib.ListN.{length, getD}
+use lib.Dec.{eqb, ltb, leb}
+use borrow.Author.Tests.{eq-eqb, ne-eqb}
+use Rattle.tokens.specs.declared.Cursor.{Cursor}
+use Rattle.tokens.specs.declared.Read.{Read}
+use Rattle.tokens.specs.declared.Read.the-variants.{To, Bad}
+use Rattle.tokens.specs.Text.{byte, to, andThen, within}
+use Rattle.tokens.specs.Number.{digit, skipDigits, digitsAt, integerAt, fractionAt, skipSign, exponentAt, skipMinus, numberAt}
+use Rattle.tokens.proofs.TextLaws.{then-bad, then-to, cond-elim, skip-onward, Onward, on-to, on-bad, onward-cond, onward-less, onward-past, onward-then}
+
+pub no-digit : digit 0 ≡ false
+unfolding within
+no-digit = refl
+
+-- ---- digits, and what may stand before and after them
+module _ (s : List ℕ) (at b : ℕ) (eb : b ≡ byte s at) where
+  pub digits-to : (c : Cursor) → digit b ≡ true → c .at ≡ skipDigits s (at + 1) → To c ≡ digitsAt s at
+  unfolding digitsAt
+  digits-to c h e = rw (← eb, h, ← e)
+
+  pub digits-bad : digit b ≡ false → Bad ≡ digitsAt s at
+  unfolding digitsAt
+  digits-bad h = rw (← eb, h)
+
+  pub integer-zero : b ≡ 0x30 → to (at + 1) ≡ integerAt s at
+  unfolding integerAt
+  integer-zero h = rw (← eb, eq-eqb _ _ h)
+
+  pub integer-digits : (r : Read) → (b ≡ 0x30 → ⊥) → r ≡ digitsAt s at → r ≡ integerAt s at
+  unfolding integerAt
+  integer-digits r h e = rw (← eb, ne-eqb _ _ h) e
+
+  pub fraction-some : (r : Read) → b ≡ 0x2E → r ≡ digitsAt s (at + 1) → r ≡ fractionAt s at
+  unfolding fractionAt
+  fraction-some r h e = rw (← eb, eq-eqb _ _ h) e
+
+  pub fraction-none : (b ≡ 0x2E → ⊥) → to at ≡ fractionAt s at
+  unfolding fractionAt
+  fraction-none h = rw (← eb, ne-eqb _ _ h)
+
+  pub sign-plus : b ≡ 0x2B → at + 1 ≡ skipSign s at
+  unfolding skipSign
+  sign-plus h = rw (← eb, eq-eqb _ _ h)
+
+  pub sign-minus : (b ≡ 0x2B → ⊥) → b ≡ 0x2D → at + 1 ≡ skipSign s at
+  unfolding skipSign
+  sign-minus g h = rw (← eb, ne-eqb _ _ g, eq-eqb _ _ h)
+
+  pub sign-none : (b ≡ 0x2B → ⊥) → (b ≡ 0x2D → ⊥) → at ≡ skipSign s at
+  unfolding skipSign
+  sign-none g h = rw (← eb, ne-eqb _ _ g, ne-eqb _ _ h)
+
+  pub minus-one : b ≡ 0x2D → at + 1 ≡ skipMinus s at
+  unfolding skipMinus
+  minus-one h = rw (← eb, eq-eqb _ _ h)
+
+  pub minus-none : (b ≡ 0x2D → ⊥) → at ≡ skipMinus s at
+  unfolding skipMinus
+  minus-none h = rw (← eb, ne-eqb _ _ h)
+
+  pub exponent-none : (b ≡ 0x65 → ⊥) → (b ≡ 0x45 → ⊥) → to at ≡ exponentAt s at
+  unfolding exponentAt
+  exponent-none g h = rw (← eb, ne-eqb _ _ g, ne-eqb _ _ h)
+
+  module _ (k : ℕ) (ek : k ≡ skipSign s (at + 1)) (r : Read) (er : r ≡ digitsAt s k) where
+    pub exponent-low : b ≡ 0x65 → r ≡ exponentAt s at
+    unfolding exponentAt
+    exponent-low h = rw (← eb, eq-eqb _ _ h, ← ek) er
+
+    pub exponent-up : (b ≡ 0x65 → ⊥) → b ≡ 0x45 → r ≡ exponentAt s at
+    unfolding exponentAt
+    exponent-up g h = rw (← eb, ne-eqb _ _ g, eq-eqb _ _ h, ← ek) er
+
+-- ---- the three parts in a row
+module _ (s : List ℕ) (at m : ℕ) (em : m ≡ skipMinus s at) (r : Read) (er : r ≡ integerAt s m) where
+  integer-is : r ≡ integerAt s (skipMinus s at)
+  integer-is = er ∙ ap (integerAt s) em
+
+  pub number-1 : r ≡ Bad → Bad ≡ numberAt s at
+  unfolding numberAt
+  number-1 h = then-bad _ _ r integer-is h
+
+  module _ (c : Cursor) (ec : r ≡ To c) (q : Read) (eq : q ≡ fractionAt s (c .at)) where
+    pub number-2 : q ≡ Bad → Bad ≡ numberAt s at
+    unfolding numberAt
+    number-2 h = then-to _ _ r integer-is c Bad ec (then-bad _ (exponentAt s) q eq h)
+
+    pub number-3 : (d : Cursor) (x : Read) → q ≡ To d → x ≡ exponentAt s (d .at) → x ≡ numberAt s at
+    unfolding numberAt
+    number-3 d x ed ex = then-to _ _ r integer-is c x ec (then-to _ (exponentAt s) q eq d x ed ex)
+
+-- ---- no reader goes back
+digits-onward : (s : List ℕ) (at : ℕ) → Onward (at + 1) (digitsAt s at)
+unfolding digitsAt
+digits-onward s at =
+    let l : at + 1 ≤ skipDigits s (at + 1) = skip-onward digit no-digit s (at + 1) in
+    onward-cond (digit (byte s at)) (on-to {c = record { at = skipDigits s (at + 1) }} (omega arith)) on-bad
+
+integer-onward : (s : List ℕ) (at : ℕ) → Onward (at + 1) (integerAt s at)
+unfolding integerAt
+integer-onward s at = onward-cond (eqb (byte s at) 0x30) (on-to {c = record { at = at + 1 }} (omega arith)) (digits-onward s at)
+
+fraction-onward : (s : List ℕ) (at : ℕ) → Onward at (fractionAt s at)
+unfolding fractionAt
+fraction-onward s at = onward-cond (eqb (byte s at) 0x2E) (onward-less (omega arith) (digits-onward s (at + 1))) (on-to {c = record { at = at }} (omega arith))
+
+sign-onward : (s : List ℕ) (at : ℕ) → at ≤ skipSign s at
+unfolding skipSign
+sign-onward s at =
+    cond-elim (λ n. at ≤ n) (eqb (byte s at) 0x2B) _ _ (λ _. omega arith)
+    (λ _. cond-elim (λ n. at ≤ n) (eqb (byte s at) 0x2D) _ _ (λ _. omega arith) (λ _. omega arith))
+
+minus-onward : (s : List ℕ) (at : ℕ) → at ≤ skipMinus s at
+unfolding skipMinus
+minus-onward s at = cond-elim (λ n. at ≤ n) (eqb (byte s at) 0x2D) _ _ (λ _. omega arith) (λ _. omega arith)
+
+exponent-onward : (s : List ℕ) (at : ℕ) → Onward at (exponentAt s at)
+unfolding exponentAt
+exponent-onward s at =
+    let l = sign-onward s (at + 1) in
+    let p = onward-less {at = at} {i = skipSign s (at + 1) + 1} (omega arith) (digits-onward s (skipSign s (at + 1))) in
+    onward-cond (eqb (byte s at) 0x65) p (onward-cond (eqb (byte s at) 0x45) p (on-to {c = record { at = at }} (omega arith)))
+
+pub number-onward : (s : List ℕ) (at : ℕ) → Onward (at + 1) (numberAt s at)
+unfolding numberAt
+number-onward s at =
+    let l = minus-onward s at in
+    onward-then (λ i. andThen (fractionAt s i) (exponentAt s)) (onward-less {at = at + 1} {i = skipMinus s at + 1} (omega arith) (integer-onward s (skipMinus s at)))
+    (λ j. onward-then (exponentAt s) (fraction-onward s j) (exponent-onward s))

@@ -1,0 +1,5 @@
+pub mod Run
+pub mod Text
+pub mod String
+pub mod Number
+pub mod Group

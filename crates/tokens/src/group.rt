@@ -1,0 +1,75 @@
+ghost use mathlib.Core.Path.{_≡_};
+ghost use Prim.Native.Nat.{ℕ, _<_};
+ghost use Rattle.tokens.specs.Group.{afterItem, colonAt, nameAt};
+use crate::After;
+use crate::Cursor;
+use crate::Name;
+use crate::Read;
+use crate::peek;
+
+impl Cursor {
+    // What stands after an item of a group that ends with close.
+    pub(crate) fn after_item(self, s: &[u8], close: u8) -> After
+        requires { ⌜ 0 < close ⌝ }
+        ensures { λ r. ⌜ r ≡ afterItem (now (s .entry)) close (self .at) ⌝ }
+    {
+        let c = self.skip_blanks(s);
+        let at = c.at;
+        let b = peek(s, at);
+        if b == b',' {
+            let d = Cursor { at: at + 1 }.skip_blanks(s);
+            return After::Item(d);
+        }
+        if b == close {
+            return After::Close(Cursor { at: at + 1 });
+        }
+        After::Bad
+    }
+
+    pub fn after_element(self, s: &[u8]) -> After
+        ensures { λ r. ⌜ r ≡ afterItem (now (s .entry)) 0x5D (self .at) ⌝ }
+    {
+        self.after_item(s, b']')
+    }
+
+    pub fn after_member(self, s: &[u8]) -> After
+        ensures { λ r. ⌜ r ≡ afterItem (now (s .entry)) 0x7D (self .at) ⌝ }
+    {
+        self.after_item(s, b'}')
+    }
+
+    // A colon between blanks, up to the value.
+    pub fn colon(self, s: &[u8]) -> Read
+        ensures { λ r. ⌜ r ≡ colonAt (now (s .entry)) (self .at) ⌝ }
+    {
+        let c = self.skip_blanks(s);
+        let at = c.at;
+        let b = peek(s, at);
+        if b == b':' {
+            let d = Cursor { at: at + 1 }.skip_blanks(s);
+            return Read::To(d);
+        }
+        Read::Bad
+    }
+
+    // A member's name and its colon.
+    pub fn name(self, s: &[u8]) -> Name
+        ensures { λ r. ⌜ r ≡ nameAt (now (s .entry)) (self .at) ⌝ }
+    {
+        let at = self.at;
+        let b = peek(s, at);
+        if b == b'"' {
+            let r = Cursor { at: at + 1 }.string(s);
+            let Read::To(e) = r else {
+                return Name::Bad;
+            };
+            let q = e.colon(s);
+            let Read::To(v) = q else {
+                return Name::Bad;
+            };
+            let end = e.at;
+            return Name::At(end - 1, v);
+        }
+        Name::Bad
+    }
+}
