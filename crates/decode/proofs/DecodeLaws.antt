@@ -416,9 +416,9 @@ module _ (h : ℕ) (x : List ℕ) where
   unfolding keyFrom
   key-end e = rw e
 
-  pub key-on : (b : ℕ) (y : List ℕ) → x ≡ b ∷ y → keyFrom ((h * 16777619 + b) % 4294967296) y ≡ keyFrom h x
+  pub key-on : (b : ℕ) (y : List ℕ) → x ≡ b ∷ y → (k : ℕ) → k ≡ (h * 16777619 + b) % 4294967296 → keyFrom k y ≡ keyFrom h x
   unfolding keyFrom
-  key-on b y e = rw e
+  key-on b y e k m = rw (e, m)
 
 -- ---- a string's body by itself
 module _ (s : List ℕ) where

@@ -1,10 +1,15 @@
 // The decoded text of a JSON string, a byte at a time, with no buffer.
+mod plain;
+
+pub use plain::keyed_string;
 ghost use mathlib.Core.Path.{_≡_};
 ghost use Prim.Native.Nat.{ℕ, _<_, _≤_};
 ghost use lib.ListN.{length, getD};
 ghost use Rattle.tokens.specs.Text.{byte};
 ghost use Rattle.decode.specs.Decode.{shortCode, pairCode, lowUnit, unicodeUnit, escapeUnit, utf8, laterByte, stream, streamed, decodedFrom, isBody};
 ghost use Rattle.decode.specs.Same.{same, keyOf};
+use crate::plain::mix;
+use crate::plain::plain_prefix;
 use tokens::Cursor;
 use tokens::Hex4;
 use tokens::Read;
@@ -21,6 +26,24 @@ pub enum Unit {
 pub enum Stream {
     Next(u8, usize, usize),
     End,
+}
+
+// Where a string ends, and its key; or that there is none.
+pub enum Keyed {
+    To(Cursor, u32),
+    Bad,
+}
+
+// Past the plain bytes at the beginning of a string, with the key so far.
+pub struct Run {
+    pub at: usize,
+    pub key: u64,
+}
+
+// A place in each of two texts.
+pub struct Places {
+    pub a: usize,
+    pub b: usize,
 }
 
 // The code point of a short escape by its letter; 256 for any other byte.
@@ -255,9 +278,10 @@ pub fn text_is(s: &[u8], at: usize, word: &[u8]) -> bool
 pub fn same_text(s: &[u8], a: usize, t: &[u8], b: usize) -> bool
     ensures { λ r. ⌜ r ≡ same (decodedFrom (now (s .entry)) a) (decodedFrom (now (t .entry)) b) ⌝ }
 {
-    let mut at = a;
+    let p = plain_prefix(s, a, t, b);
+    let mut at = p.a;
     let mut k = 0usize;
-    let mut bt = b;
+    let mut bt = p.b;
     let mut l = 0usize;
     loop {
         let g = next_byte(s, at, k);
@@ -294,7 +318,7 @@ pub fn text_key(s: &[u8], at: usize) -> u32
         let Stream::Next(b, m, l) = g else {
             return h as u32;
         };
-        h = (h * 16777619 + b as u64) % 4294967296;
+        h = mix(h, b);
         j = m;
         k = l;
     }

@@ -20,8 +20,9 @@ use Rattle.tokens.specs.declared.After.{After}
 use Rattle.tokens.specs.declared.After.the-variants as A
 use Rattle.tokens.specs.declared.Name.{Name}
 use Rattle.tokens.specs.declared.Name.the-variants as N
-use Rattle.tokens.proofs.TextLaws.{inside, cond-elim, blanks-onward}
-use Rattle.tokens.proofs.GroupLaws.{OnwardName, onward-name, name-onward}
+use Rattle.tokens.proofs.TextLaws.{inside, cond-elim, blanks-onward, Onward, onward-is}
+use Rattle.tokens.proofs.StringLaws.{string-onward}
+use Rattle.tokens.proofs.GroupLaws.{OnwardName, onward-name, name-onward, OnwardAfter, onward-item, after-onward}
 use Rattle.grammar.specs.Reading.{itemsAt, groupAt, memberAt, valueAt, arrayAt, objectAt}
 use Rattle.grammar.specs.Skip.{skipString, skipValue, opens, scalar}
 use Rattle.grammar.proofs.SkipRead.{string-read, value-read}
@@ -34,8 +35,10 @@ use Rattle.decode.specs.Decode.{decodedFrom}
 use Rattle.decode.specs.Same.{keyOf}
 use Rattle.json.specs.declared.Scan.{Scan}
 use Rattle.json.specs.declared.Scan.the-variants as S
+use Rattle.json.specs.declared.Named.{Named}
+use Rattle.json.specs.declared.Named.the-variants as D
 use Rattle.json.specs.declared.Names.{Names}
-use Rattle.json.specs.Judged.{scanned}
+use Rattle.json.specs.Judged.{scanned, named}
 use Rattle.json.specs.Names.{nameOf, has, repeated, badNames, any, badArray, badObject, badMembersAt}
 use Rattle.json.specs.Stack.{namesOn, KeysAgree, refuses, NameKept, kept, refused, badArrayAt, badObjectAt, Kept, Room}
 
@@ -259,7 +262,7 @@ pub record ObjectPass (d : ℕ) (s : List ℕ) (at start used : ℕ) (places₀ 
   pub names : (bad || badFrom (badMembersAt d s) s (namesOn s places used n) (membersFrom s i)) ≡ badObject (badMembersAt d s) s (membersFrom s start)
   pub agree : KeysAgree s places keys used n
   pub few : n ≤ members
-  pub forward : at + n ≤ i
+  pub forward : at + 4 * n ≤ i
   pub places-kept : Kept used places₀ places
   pub keys-kept : Kept used keys₀ keys
 
@@ -288,6 +291,7 @@ record Parts (s : List ℕ) (i q : ℕ) (v : Cursor) : Type 0 where
   quote : byte s i ≡ 0x22
   string : skipString s (i + 1) ≡ end .at
   colon : colonAt s (end .at) ≡ R.To v
+  last : i + 2 ≤ end .at
 
 name-parts : (s : List ℕ) (i q : ℕ) (v : Cursor) → nameAt s i ≡ N.At q v → Parts s i q v
 unfolding nameAt
@@ -297,7 +301,13 @@ name-parts s i q v e =
   where
     after : (c : Cursor) (r : Read) → stringAt s (i + 1) ≡ R.To c → colonAt s (c .at) ≡ r → byte s i ≡ 0x22
         → nameThen r (λ w. N.At (c .at - 1) (record { at = w })) ≡ N.At q v → Parts s i q v
-    after c (R.To w) p h b g = record { end = c; quote = b; string = string-read s i c b p; colon = h ∙ cc }
+    after c (R.To w) p h b g = record {
+      end = c;
+      quote = b;
+      string = string-read s i c b p;
+      colon = h ∙ cc;
+      last = omega (arith, onward-is (subst (λ (x : Read). Onward (i + 1 + 1) x) p (string-onward s (i + 1))));
+    }
     after c R.Bad p h b g = let z : _≡_ {A = ℕ} 0 1 = cc in absurd (omega arith)
 
     text : (r : Read) → stringAt s (i + 1) ≡ r → byte s i ≡ 0x22
@@ -305,10 +315,45 @@ name-parts s i q v e =
     text (R.To c) p b g = after c (colonAt s (c .at)) p refl b g
     text R.Bad p b g = let z : _≡_ {A = ℕ} 0 1 = cc in absurd (omega arith)
 
-pub name-inside : (s : List ℕ) (i q : ℕ) (v : Cursor) → nameAt s i ≡ N.At q v → (i < length s) × (i < v .at)
-name-inside s i q v e = go (subst (OnwardName i) e (name-onward s i)) where
-  go : OnwardName i (N.At q v) → (i < length s) × (i < v .at)
-  go (onward-name h k) = (inside s i 0x22 (sym (name-parts s i q v e .quote)) (omega arith), omega arith)
+-- the name, its colon and the value's place are three bytes at least, and the colon stands inside the text
+pub name-inside : (s : List ℕ) (i q : ℕ) (v : Cursor) → nameAt s i ≡ N.At q v → (i + 3 ≤ length s) × (i + 3 ≤ v .at)
+unfolding colonAt
+name-inside s i q v e = go (subst (OnwardName i) e (name-onward s i)) (name-parts s i q v e) where
+  colon : (n : ℕ) (x : Read) → cond (eqb (byte s (skipBlanks s n)) 0x3A) (to (skipBlanks s (skipBlanks s n + 1))) R.Bad ≡ R.To v → skipBlanks s n < length s
+  colon n x h =
+      cond-elim (λ (r : Read). r ≡ R.To v → skipBlanks s n < length s) (eqb (byte s (skipBlanks s n)) 0x3A) _ _
+      (λ b _. inside s (skipBlanks s n) 0x3A (sym (eqb-true _ _ b)) (omega arith)) (λ _ g. let z : _≡_ {A = ℕ} 0 1 = cc in absurd (omega arith)) h
+
+  go : OnwardName i (N.At q v) → Parts s i q v → (i + 3 ≤ length s) × (i + 3 ≤ v .at)
+  go (onward-name h k) p =
+      let l = colon (p .end .at) R.Bad (p .colon) in
+      let m = blanks-onward s (p .end .at) in
+      let n = p .last in
+      (omega arith, omega arith)
+
+-- ---- a name with its key
+pub named-none : (n : Name) (k : ℕ) → D.Bad ≡ named n k → n ≡ N.Bad
+named-none (N.At q v) k e = let z : _≡_ {A = ℕ} 0 1 = cc in absurd (omega arith)
+named-none N.Bad k e = refl
+
+record NamedIs (n : Name) (k : ℕ) (v : Cursor) (key : ℕ) : Type 0 where
+  quote : ℕ
+  name : n ≡ N.At quote v
+  same : key ≡ k
+
+named-is : (n : Name) (k : ℕ) (v : Cursor) (key : ℕ) → D.At v key ≡ named n k → NamedIs n k v key
+named-is (N.At q w) k v key e = record { quote = q; name = ap (N.At q) (cc); same = cc }
+named-is N.Bad k v key e = let z : _≡_ {A = ℕ} 0 1 = cc in absurd (omega arith)
+
+module _ (s : List ℕ) (i : ℕ) (k : Named) (ek : k ≡ named (nameAt s i) (keyOf (decodedFrom s (i + 1)))) (v : Cursor) (key : ℕ) (hk : k ≡ D.At v key) where
+  name-was : NamedIs (nameAt s i) (keyOf (decodedFrom s (i + 1))) v key
+  name-was = named-is (nameAt s i) (keyOf (decodedFrom s (i + 1))) v key (sym hk ∙ ek)
+
+  pub name-far : (i + 3 ≤ length s) × (i + 3 ≤ v .at)
+  name-far = name-inside s i (name-was .quote) v (name-was .name)
+
+  pub name-keyed : key ≡ keyOf (decodedFrom s (i + 1))
+  name-keyed = name-was .same
 
 -- the member at i, where its value was read up to c, is the next one found
 module _ (d : ℕ) (s : List ℕ) (i q : ℕ) (v c : Cursor) (en : nameAt s i ≡ N.At q v) (ev : valueAt d s (v .at) ≡ R.To c)
@@ -388,20 +433,26 @@ module _ (s : List ℕ) (at base : ℕ) (names : Names) (places keys : List ℕ)
 -- ---- the loop's steps
 module _ (d : ℕ) (s : List ℕ) (at start used : ℕ) (places₀ keys₀ places keys : List ℕ) (bad : Bool) (n i : ℕ)
     (p : ObjectPass d s at start used places₀ keys₀ places keys bad n i) where
-  pub object-nameless : (k : Name) → k ≡ nameAt s i → k ≡ N.Bad → ObjectTold d s start S.Bad
-  object-nameless k ek h = told-bad _ _ (sym (p .reading) ∙ items-none (memberAt (valueAt d s) s) s 0x7D i (member-none (valueAt d s) s i (sym ek ∙ h)))
+  pub object-nameless : (k : Named) → k ≡ named (nameAt s i) (keyOf (decodedFrom s (i + 1))) → k ≡ D.Bad → ObjectTold d s start S.Bad
+  object-nameless k ek h =
+      told-bad _ _ (sym (p .reading)
+      ∙ items-none (memberAt (valueAt d s) s) s 0x7D i (member-none (valueAt d s) s i (named-none (nameAt s i) (keyOf (decodedFrom s (i + 1))) (sym h ∙ ek))))
 
-  module _ (k : Name) (ek : k ≡ nameAt s i) (q : ℕ) (v : Cursor) (hk : k ≡ N.At q v) (t : Names) (places′ keys′ : List ℕ)
+  module _ (k : Named) (ek : k ≡ named (nameAt s i) (keyOf (decodedFrom s (i + 1)))) (v : Cursor) (key : ℕ) (hk : k ≡ D.At v key) (t : Names) (places′ keys′ : List ℕ)
       (et : NameKept s (i + 1) used (record { count = n; bad = bad }) places keys t places′ keys′)
       (fits : n < members → used + n < length places) (fits′ : n < members → used + n < length keys)
       (r : Scan) (er : r ≡ scanned (valueAt d s (v .at)) (badMembersAt d s (v .at))) where
-    named : nameAt s i ≡ N.At q v
-    named = sym ek ∙ hk
+    q : ℕ
+    q = name-was s i k ek v key hk .quote
+
+    name-is : nameAt s i ≡ N.At q v
+    unfolding q
+    name-is = name-was s i k ek v key hk .name
 
     pub object-stop : r ≡ S.Bad → ObjectTold d s start S.Bad
     object-stop h =
         told-bad _ _ (sym (p .reading)
-        ∙ items-none (memberAt (valueAt d s) s) s 0x7D i (member-value (valueAt d s) s i q v named ∙ scan-bad _ _ (sym h ∙ er)))
+        ∙ items-none (memberAt (valueAt d s) s) s 0x7D i (member-value (valueAt d s) s i q v name-is ∙ scan-bad _ _ (sym h ∙ er)))
 
     module _ (c : Cursor) (inner : Bool) (h : r ≡ S.To c inner) (b : Bool) (eb : b ≡ (t .bad || inner)) (a : After) (ea : a ≡ afterItem s 0x7D (c .at)) where
       value-is : valueAt d s (v .at) ≡ R.To c
@@ -411,7 +462,7 @@ module _ (d : ℕ) (s : List ℕ) (at start used : ℕ) (places₀ keys₀ place
       inner-is = scan-to (valueAt d s (v .at)) (badMembersAt d s (v .at)) c inner (sym h ∙ er) .1
 
       member-is : memberAt (valueAt d s) s i ≡ R.To c
-      member-is = member-value (valueAt d s) s i q v named ∙ value-is
+      member-is = member-value (valueAt d s) s i q v name-is ∙ value-is
 
       pub object-bad : a ≡ A.Bad → ObjectTold d s start S.Bad
       object-bad g = told-bad _ _ (sym (p .reading) ∙ items-bad (memberAt (valueAt d s) s) s 0x7D i c member-is (sym ea ∙ g))
@@ -424,7 +475,7 @@ module _ (d : ℕ) (s : List ℕ) (at start used : ℕ) (places₀ keys₀ place
         rest-told : (afterItem s 0x7D (c .at) ≡ A.Bad → ⊥)
             → (b || badFrom (badMembersAt d s) s (namesOn s places″ used (t .count)) (membersFrom s (nextItem s (c .at)))) ≡ badObject (badMembersAt d s) s (membersFrom s start)
         rest-told f =
-            let m = member-first d s i q v c named value-is f in
+            let m = member-first d s i q v c name-is value-is f in
             let e : inner ≡ badMembersAt d s (m .0 .value) = sym inner-is ∙ ap (badMembersAt d s) (sym (m .2)) in
             rw (same-names, eb, e)
             (kept-told s (i + 1) used (record { count = n; bad = bad }) places keys fits fits′ et (badMembersAt d s) (m .0) (membersFrom s (nextItem s (c .at))) (m .1)
@@ -440,8 +491,12 @@ module _ (d : ℕ) (s : List ℕ) (at start used : ℕ) (places₀ keys₀ place
             (sym (or-false b) ∙ ap (λ (x : List Member). b || badFrom (badMembersAt d s) s (namesOn s places″ used (t .count)) x) (sym o) ∙ rest-told (close-apart _ e w))
 
         module _ (e : Cursor) (g : a ≡ A.Item e) where
-          pub object-less : (i < e .at) × (i < length s)
-          object-less = items-less (memberAt (valueAt d s) s) s 0x7D i c member-is (member-forward d s) e (sym ea ∙ g)
+          pub object-less : (i + 4 ≤ e .at) × (i < length s)
+          object-less = go (subst (OnwardAfter s (c .at)) (sym ea ∙ g) (after-onward s 0x7D (c .at))) where
+            go : OnwardAfter s (c .at) (A.Item e) → (i + 4 ≤ e .at) × (i < length s)
+            go (onward-item l m) =
+                let f = name-far s i k ek v key hk in
+                (omega (arith, f .1, value-onward d s (v .at) c value-is), omega (arith, f .0))
 
           pub object-again : (keys″ : List ℕ) → Kept (used + t .count) keys′ keys″ → ObjectPass d s at start used places₀ keys₀ places″ keys″ b (t .count) (e .at)
           object-again keys″ kk =

@@ -13,10 +13,19 @@ use Rattle.tokens.specs.String.{stringAt}
 use Rattle.tokens.specs.Number.{numberAt}
 use Rattle.tokens.specs.declared.Read.{Read}
 use Rattle.tokens.specs.declared.Read.the-variants as R
+use Rattle.tokens.specs.Group.{colonAt, nameAt}
+use Rattle.tokens.specs.declared.Cursor.{Cursor}
+use Rattle.tokens.specs.declared.Name.{Name}
+use Rattle.tokens.proofs.GroupLaws.{name-none, name-string, name-colon, name-to}
+use Rattle.decode.specs.declared.Keyed.{Keyed}
+use Rattle.decode.specs.declared.Keyed.the-variants as K
+use Rattle.decode.specs.Plain.{keyed}
 use Rattle.grammar.specs.Reading.{anyValueAt, valueAt, arrayAt, objectAt}
 use Rattle.members.specs.Members.{membersFrom, elementsFrom}
 use Rattle.json.specs.declared.Scan.{Scan}
-use Rattle.json.specs.Judged.{scanned}
+use Rattle.json.specs.declared.Named.{Named}
+use Rattle.json.specs.declared.Named.the-variants as D
+use Rattle.json.specs.Judged.{scanned, named}
 use Rattle.json.specs.Names.{badArray, badObject, badMembersAt}
 use Rattle.json.specs.Stack.{badArrayAt, badObjectAt}
 
@@ -79,3 +88,31 @@ module _ (d : ℕ) (s : List ℕ) (at b : ℕ) (eb : b ≡ byte s at) where
 
     pub value-leaf : (q : Scan) (r : Read) → r ≡ valueAt 0 s at → q ≡ scanned r false → q ≡ scanned (valueAt d s at) (badMembersAt d s at)
     value-leaf q r e h = rw (← leaf-any, leaf-good d, ← e) h
+
+-- ---- a name with its key
+keyed-none : (x : Read) (k : ℕ) → K.Bad ≡ keyed x k → x ≡ R.Bad
+keyed-none (R.To c) k e = let z : _≡_ {A = ℕ} 0 1 = cc in absurd (omega arith)
+keyed-none R.Bad k e = refl
+
+keyed-to : (x : Read) (k : ℕ) (c : Cursor) (key : ℕ) → K.To c key ≡ keyed x k → (x ≡ R.To c) × (key ≡ k)
+keyed-to (R.To d) k c key e = (cc, cc)
+keyed-to R.Bad k c key e = let z : _≡_ {A = ℕ} 0 1 = cc in absurd (omega arith)
+
+module _ (s : List ℕ) (at b : ℕ) (eb : b ≡ byte s at) (k : ℕ) where
+  pub key-nameless : (b ≡ 0x22 → ⊥) → D.Bad ≡ named (nameAt s at) k
+  key-nameless h = ap (λ (n : Name). named n k) (name-none s at b eb h)
+
+  module _ (h : b ≡ 0x22) (r : Keyed) (er : r ≡ keyed (stringAt s (at + 1)) k) where
+    pub key-string : r ≡ K.Bad → D.Bad ≡ named (nameAt s at) k
+    key-string g = ap (λ (n : Name). named n k) (name-string s at b eb h R.Bad (sym (keyed-none _ k (sym g ∙ er))) refl)
+
+    module _ (c : Cursor) (key : ℕ) (g : r ≡ K.To c key) (q : Read) (eq : q ≡ colonAt s (c .at)) where
+      string-was : R.To c ≡ stringAt s (at + 1)
+      string-was = sym (keyed-to (stringAt s (at + 1)) k c key (sym g ∙ er) .0)
+
+      pub key-colon : q ≡ R.Bad → D.Bad ≡ named (nameAt s at) k
+      key-colon f = ap (λ (n : Name). named n k) (name-colon s at b eb h (R.To c) string-was c refl q eq f)
+
+      pub key-value : (v : Cursor) → q ≡ R.To v → D.At v key ≡ named (nameAt s at) k
+      key-value v f =
+          rw (← name-to s at b eb h (R.To c) string-was c refl q eq v f, ← keyed-to (stringAt s (at + 1)) k c key (sym g ∙ er) .1)

@@ -6,10 +6,14 @@ use Rattle.limits.specs.Limits.{nesting}
 use Rattle.tokens.specs.Text.{skipBlanks}
 use Rattle.tokens.specs.declared.Read.{Read}
 use Rattle.tokens.specs.declared.Read.the-variants as R
+use Rattle.tokens.specs.declared.Name.{Name}
+use Rattle.tokens.specs.declared.Name.the-variants as N
 use Rattle.grammar.specs.Reading.{isJson}
 use Rattle.json.specs.Names.{badMembersAt}
 use Rattle.json.specs.declared.Scan.{Scan}
 use Rattle.json.specs.declared.Scan.the-variants as S
+use Rattle.json.specs.declared.Named.{Named}
+use Rattle.json.specs.declared.Named.the-variants as D
 use Rattle.json.specs.declared.Judged.{Judged}
 use Rattle.json.specs.declared.Judged.the-variants.{Good, NotJson, BadMembers}
 
@@ -17,6 +21,11 @@ use Rattle.json.specs.declared.Judged.the-variants.{Good, NotJson, BadMe
 abbrev pub scanned : Read → Bool → Scan
 scanned (R.To c) bad = S.To c bad
 scanned R.Bad bad = S.Bad
+
+-- a member's name that was read, with its key
+abbrev pub named : Name → ℕ → Named
+named (N.At q v) key = D.At v key
+named N.Bad key = D.Bad
 
 unfoldable pub judged : List ℕ → Judged
 judged s = cond (isJson s) (cond (badMembersAt nesting s (skipBlanks s 0)) BadMembers Good) NotJson

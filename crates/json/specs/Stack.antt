@@ -4,7 +4,7 @@ use mathlib.Core.Bool.{Bool, true, false, _||_}
 use mathlib.Core.List.{List, [], _∷_}
 use Prim.Native.Nat.{ℕ, zero, suc, _+_, _*_, _-_, _≤_, _<_, min}
 use lib.ListN.{length, getD, take, set}
-use lib.Dec.{leb}
+use lib.Dec.{eqb, leb}
 use Rattle.limits.specs.Limits.{members}
 use Rattle.decode.specs.Decode.{decodedFrom}
 use Rattle.decode.specs.Same.{keyOf}
@@ -12,6 +12,11 @@ use Rattle.tokens.specs.Text.{skipBlanks}
 use Rattle.json.specs.declared.Names.{Names}
 use Rattle.members.specs.Members.{membersFrom, elementsFrom}
 use Rattle.json.specs.Names.{has, badArray, badObject, badMembersAt}
+
+-- a key is among the keys
+unfoldable pub hasKey : ℕ → List ℕ → Bool
+hasKey key [] = false
+hasKey key (k ∷ l) = eqb k key || hasKey key l
 
 -- the n names from a base on, the last one first
 unfoldable pub namesOn : List ℕ → List ℕ → ℕ → ℕ → List (List ℕ)
@@ -47,6 +52,7 @@ pub record Kept (used : ℕ) (old new : List ℕ) : Type 0 where
   pub same : take used new ≡ take used old
   pub long : length new ≡ length old
 
--- room for the names that a value can have open at once: of d levels, and at most one for each byte left
+-- Room for the names that an array or object can have open at once, from past its opening byte on: those of d levels, and at
+-- most one for each four bytes, since a member takes that many.
 abbrev pub Room : ℕ → List ℕ → ℕ → ℕ → ℕ → Type 0
-Room d s at used room = used + min (members * d) (length s - at) ≤ room
+Room d s at used room = 4 * used + min (4 * (members * d)) (length s + 1 - at) ≤ 4 * room

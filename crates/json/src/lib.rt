@@ -22,6 +22,12 @@ pub enum Scan {
     Bad,
 }
 
+// A member's name and its colon: where the value stands, and the name's key; or that there is none.
+pub enum Named {
+    At(tokens::Cursor, u32),
+    Bad,
+}
+
 // How many names of an object are kept, and whether the object, or one in it, has a name twice or too many members.
 pub struct Names {
     pub count: usize,
@@ -31,8 +37,10 @@ pub struct Names {
 // Names of all open objects, at the limits of nesting and of members.
 const NAMES: usize = Limits::NESTING * Limits::MEMBERS;
 
-// A text of this length has no more names than bytes, and needs no more room for them.
-const SHORT: usize = 1024;
+// A member takes at least four bytes, so that a short text needs room for fewer names.
+const FEW: usize = 1024;
+
+const SHORT: usize = 4096;
 
 pub fn judge(s: &[u8]) -> Judged
     ensures { λ r. ⌜ r ≡ judged (now (s .entry)) ⌝ }
@@ -44,11 +52,11 @@ pub fn judge(s: &[u8]) -> Judged
 }
 
 fn judge_short(s: &[u8]) -> Judged
-    requires { ⌜ length (now s) ≤ 1024 ⌝ }
+    requires { ⌜ length (now s) ≤ 4096 ⌝ }
     ensures { λ r. ⌜ r ≡ judged (now (s .entry)) ⌝ }
 {
-    let mut places = [0usize; SHORT];
-    let mut keys = [0u32; SHORT];
+    let mut places = [0usize; FEW];
+    let mut keys = [0u32; FEW];
     judge_with(s, &mut places, &mut keys)
 }
 

@@ -4,19 +4,24 @@ ghost use Prim.Native.Nat.{ℕ, _+_, _≤_, _<_};
 ghost use lib.ListN.{length};
 ghost use Rattle.limits.specs.Limits.{nesting};
 ghost use Rattle.tokens.specs.Text.{byte};
+ghost use Rattle.tokens.specs.Group.{nameAt};
+ghost use Rattle.decode.specs.Decode.{decodedFrom};
+ghost use Rattle.decode.specs.Same.{keyOf};
 ghost use Rattle.grammar.specs.Reading.{valueAt, arrayAt, objectAt};
-ghost use Rattle.json.specs.Judged.{scanned, judged};
+ghost use Rattle.json.specs.Judged.{scanned, named, judged};
 ghost use Rattle.json.specs.Names.{badMembersAt};
 ghost use Rattle.json.specs.Stack.{badArrayAt, badObjectAt, Kept, Room};
 use crate::Judged;
+use crate::Named;
 use crate::Names;
 use crate::Scan;
 use crate::seen::either;
 use crate::seen::keep_name;
+use decode::Keyed;
+use decode::keyed_string;
 use limits::Limits;
 use tokens::After;
 use tokens::Cursor;
-use tokens::Name;
 use tokens::Read;
 use tokens::peek;
 
@@ -52,6 +57,25 @@ pub(crate) fn plain(r: Read) -> Scan
     }
 }
 
+// A member's name and its colon, with the name's key.
+pub(crate) fn name_key(s: &[u8], at: usize) -> Named
+    ensures { λ r. ⌜ r ≡ named (nameAt (now (s .entry)) at) (keyOf (decodedFrom (now (s .entry)) (at + 1))) ⌝ }
+{
+    let b = peek(s, at);
+    if b == b'"' {
+        let r = keyed_string(s, at + 1);
+        let Keyed::To(c, key) = r else {
+            return Named::Bad;
+        };
+        let q = c.colon(s);
+        let Read::To(v) = q else {
+            return Named::Bad;
+        };
+        return Named::At(v, key);
+    }
+    Named::Bad
+}
+
 pub(crate) fn value(
     s: &[u8],
     at: usize,
@@ -60,8 +84,8 @@ pub(crate) fn value(
     keys: &mut [u32],
     used: usize,
 ) -> Scan
-    requires { ⌜ Room depth (now s) at used (length (now places)) ⌝ }
-    requires { ⌜ Room depth (now s) at used (length (now keys)) ⌝ }
+    requires { ⌜ Room depth (now s) (at + 1) used (length (now places)) ⌝ }
+    requires { ⌜ Room depth (now s) (at + 1) used (length (now keys)) ⌝ }
     ensures { λ r. ⌜ r ≡ scanned (valueAt depth (now (s .entry)) at) (badMembersAt depth (now (s .entry)) at) ⌝ }
     ensures { λ r. ⌜ Kept used (now (places .entry)) (now (places .exit)) ⌝ }
     ensures { λ r. ⌜ Kept used (now (keys .entry)) (now (keys .exit)) ⌝ }
@@ -149,11 +173,19 @@ pub(crate) fn object(
     let mut bad = false;
     let mut n = 0usize;
     loop {
-        let k = Cursor { at: i }.name(s);
-        let Name::At(q, v) = k else {
+        let k = name_key(s, i);
+        let Named::At(v, key) = k else {
             return Scan::Bad;
         };
-        let t = keep_name(s, i + 1, places, keys, used, Names { count: n, bad: bad });
+        let t = keep_name(
+            s,
+            i + 1,
+            key,
+            places,
+            keys,
+            used,
+            Names { count: n, bad: bad },
+        );
         n = t.count;
         bad = t.bad;
         let j = v.at;
@@ -179,8 +211,8 @@ pub(crate) fn object(
 
 // The whole text, with lent memory for the names of its open objects.
 pub(crate) fn judge_with(s: &[u8], places: &mut [usize], keys: &mut [u32]) -> Judged
-    requires { ⌜ Room nesting (now s) 0 0 (length (now places)) ⌝ }
-    requires { ⌜ Room nesting (now s) 0 0 (length (now keys)) ⌝ }
+    requires { ⌜ Room nesting (now s) 1 0 (length (now places)) ⌝ }
+    requires { ⌜ Room nesting (now s) 1 0 (length (now keys)) ⌝ }
     ensures { λ r. ⌜ r ≡ judged (now (s .entry)) ⌝ }
 {
     let c = Cursor { at: 0 }.skip_blanks(s);

@@ -65,8 +65,8 @@ module _ (s : List ℕ) (at b : ℕ) (eb : b ≡ byte s at) where
       name-to v g = rw (← eb, eq-eqb _ _ h, ← er, ge, ← eq, g)
 
       -- the string ends past its opening quote
-      pub name-end : at + 1 ≤ e .at
-      name-end = onward-is (subst (λ (x : Read). Onward (at + 1) x) (sym er ∙ ge) (string-onward s (at + 1)))
+      pub name-end : at + 1 + 1 ≤ e .at
+      name-end = onward-is (subst (λ (x : Read). Onward (at + 1 + 1) x) (sym er ∙ ge) (string-onward s (at + 1)))
 
 -- ---- no reader goes back
 pub data OnwardAfter (s : List ℕ) (at : ℕ) : After → Type 0 where
@@ -84,7 +84,7 @@ after-onward s close at =
     (λ _. cond-elim (OnwardAfter s at) (eqb (byte s (skipBlanks s at)) close) _ _ (λ _. onward-close (omega arith)) (λ _. onward-neither))
 
 pub data OnwardName (at : ℕ) : Name → Type 0 where
-  onward-name : {q : ℕ} {v : Cursor} → at ≤ q → q < v .at → OnwardName at (N.At q v)
+  onward-name : {q : ℕ} {v : Cursor} → at < q → q + 1 < v .at → OnwardName at (N.At q v)
   onward-no-name : OnwardName at N.Bad
 
 pub colon-onward : (s : List ℕ) (at : ℕ) → Onward (at + 1) (colonAt s at)
@@ -94,11 +94,11 @@ colon-onward s at =
     let m = blanks-onward s (skipBlanks s at + 1) in
     onward-cond (eqb (byte s (skipBlanks s at)) 0x3A) (on-to {c = record { at = skipBlanks s (skipBlanks s at + 1) }} (omega arith)) on-bad
 
-onward-value : {at : ℕ} {q : Read} (e : ℕ) → at < e → Onward (e + 1) q → OnwardName at (nameThen q (λ v. N.At (e - 1) (record { at = v })))
+onward-value : {at : ℕ} {q : Read} (e : ℕ) → at + 1 < e → Onward (e + 1) q → OnwardName at (nameThen q (λ v. N.At (e - 1) (record { at = v })))
 onward-value e h (on-to {c} p) = onward-name {q = e - 1} {v = record { at = c .at }} (omega arith) (omega arith)
 onward-value e h on-bad = onward-no-name
 
-onward-string : {at : ℕ} {r : Read} (f : ℕ → Read) → ((e : ℕ) → Onward (e + 1) (f e)) → Onward (at + 1) r
+onward-string : {at : ℕ} {r : Read} (f : ℕ → Read) → ((e : ℕ) → Onward (e + 1) (f e)) → Onward (at + 1 + 1) r
     → OnwardName at (nameThen r (λ e. nameThen (f e) (λ v. N.At (e - 1) (record { at = v }))))
 onward-string f g (on-to {c} p) = onward-value (c .at) (omega arith) (g (c .at))
 onward-string f g on-bad = onward-no-name

@@ -264,16 +264,17 @@ module _ (s : List ℕ) where
       unfolding stringAt stringTurn
       string-on c g = run-on s Bad (stringTurn s) string-advances i (c .at) (rw (← eb, ne-eqb _ _ h, ← er, g))
 
-string-onwardF : (s : List ℕ) (n at : ℕ) → Onward at (runTurns Bad (stringTurn s) n at)
+string-onwardF : (s : List ℕ) (n at : ℕ) → Onward (at + 1) (runTurns Bad (stringTurn s) n at)
 unfolding runTurns stringTurn
 string-onwardF s zero at = on-bad
 string-onwardF s (suc n) at = go (eqb (byte s at) 0x22) (characterAt s at) (character-onward s at) (string-onwardF s n) where
-  go : (t : Bool) (r : Read) → Onward (at + 1) r → ((i : ℕ) → Onward i (runTurns Bad (stringTurn s) n i))
-      → Onward at (afterTurn {A = Read} (cond t (out (to (at + 1))) (onward r)) (λ j. runTurns Bad (stringTurn s) n j))
+  go : (t : Bool) (r : Read) → Onward (at + 1) r → ((i : ℕ) → Onward (i + 1) (runTurns Bad (stringTurn s) n i))
+      → Onward (at + 1) (afterTurn {A = Read} (cond t (out (to (at + 1))) (onward r)) (λ j. runTurns Bad (stringTurn s) n j))
   go true r p f = on-to {c = record { at = at + 1 }} (omega arith)
-  go false (To c) p f = let l = onward-is p in onward-less {at = at} {i = c .at} (omega arith) (f (c .at))
+  go false (To c) p f = let l = onward-is p in onward-less {at = at + 1} {i = c .at + 1} (omega arith) (f (c .at))
   go false Bad p f = on-bad
 
-pub string-onward : (s : List ℕ) (at : ℕ) → Onward at (stringAt s at)
+-- a string has its closing quote
+pub string-onward : (s : List ℕ) (at : ℕ) → Onward (at + 1) (stringAt s at)
 unfolding stringAt run
 string-onward s at = string-onwardF s (suc (length s)) at

@@ -1,11 +1,22 @@
 use borrow.Author.Needs.{needs}
-use lib.ListN.{length}
-use mathlib.Core.Path.{_≡_, _∙_}
-use Rattle.decode.specs.Decode.{decodedFrom, stream}
-use Rattle.decode.specs.Same.{same}
+use native.Mathlib.Omega.{arith}
+use lib.ListN.{length, getD, drop}
+use Prim.Native.Nat.{ℕ, _≤_, _<_, _-_, _+_, _*_}
+use mathlib.Core.Path.{_≡_, refl, sym, ap, _∙_}
+use mathlib.Core.List.{List, [], _∷_}
+use borrow.Author.Tests.{eq-eqb, ne-eqb, le-leb, lt-leb, lt-ltb}
+use Rattle.decode.specs.Decode.{decodedFrom}
+use Rattle.decode.specs.Same.{same, keyOf}
+use Rattle.decode.specs.Plain.{plain, PlainRun}
 use Rattle.decode.proofs.DecodeLaws.{stream-start, streamed-next, streamed-end, shorter, both-end, left-end, right-end, both-not, both-on}
+use Rattle.decode.specs.Decode.{decodedFrom, stream}
+use Rattle.decode.specs.Same.{keyFrom}
 use Rattle.decode.proofs.same_text.Statement.{statement}
 use Rattle.decode.proofs.same_text.Tie as tie
+use Rattle.decode.proofs.same_text.Reads as reads
+use Rattle.decode.proofs.same_text.Lts as lts
+use Rattle.decode.proofs.next_byte.Reads as next-byte-reads
+use Rattle.decode.proofs.plain.plain_prefix.Reads as plain-prefix-reads
 
 abbrev Inv-loop : tie.InvT-loop
 Inv-loop s a t b at₀ k₀ bt₀ l₀ at k bt l = same (stream s at k) (stream t bt l) ≡ same (decodedFrom s a) (decodedFrom t b)
@@ -13,12 +24,11 @@ Inv-loop s a t b at₀ k₀ bt₀ l₀ at k bt l = same (stream s at k) (stream 
 abbrev μ-loop : tie.MeasureT-loop
 μ-loop s a t b at₀ k₀ bt₀ l₀ at k bt l = length (stream s at k)
 
+plain-prefix-requires : tie.Need-plain-prefix-requires Inv-loop μ-loop
+plain-prefix-requires c κs = search needs
+
 loop-holds : tie.Need-loop-holds Inv-loop μ-loop
-loop-holds c =
-    rw (
-      stream-start (c .before .before .args .s .now) (c .before .before .args .a),
-      stream-start (c .before .before .args .t .now) (c .before .before .args .b),
-    )
+loop-holds c = rw (stream-start (c .before .before .before .args .s .now) (c .plain-prefix .result .a), stream-start (c .before .before .before .args .t .now) (c .plain-prefix .result .b)) (c .plain-prefix .ensures)
 
 next-byte-requires : tie.Need-next-byte-requires Inv-loop μ-loop
 next-byte-requires c κs = search needs
@@ -39,17 +49,10 @@ enum-told-2 : tie.Need-enum-told-2 Inv-loop μ-loop
 enum-told-2 c = search needs
 
 returns : tie.Need-returns Inv-loop μ-loop
-returns c =
-    both-end _ _ (streamed-end _ _ _ (c .before .before .before .before .before .next-byte .ensures) (c .before .before .enum-told .given .1))
-    (streamed-end _ _ _ (c .before .before .before .before .next-byte2 .ensures) (c .enum-told2 .given .1)) ∙
-    (c .before .before .before .before .before .before .loop .inv)
+returns c = both-end _ _ (streamed-end _ _ _ (c .before .before .before .before .before .next-byte .ensures) (c .before .before .enum-told .given .1)) (streamed-end _ _ _ (c .before .before .before .before .next-byte2 .ensures) (c .enum-told2 .given .1)) ∙ (c .before .before .before .before .before .before .loop .inv)
 
 returns-2 : tie.Need-returns-2 Inv-loop μ-loop
-returns-2 c =
-    left-end _ _ _ _
-    (streamed-end _ _ _ (c .before .before .before .before .before .before .next-byte .ensures) (c .before .before .before .enum-told .given .1))
-    (streamed-next _ _ _ (c .before .before .before .before .before .next-byte2 .ensures) _ _ _ (c .before .h .given .1)) ∙
-    (c .before .before .before .before .before .before .before .loop .inv)
+returns-2 c = left-end _ _ _ _ (streamed-end _ _ _ (c .before .before .before .before .before .before .next-byte .ensures) (c .before .before .before .enum-told .given .1)) (streamed-next _ _ _ (c .before .before .before .before .before .next-byte2 .ensures) _ _ _ (c .before .h .given .1)) ∙ (c .before .before .before .before .before .before .before .loop .inv)
 
 enum-known-h-2 : tie.Need-enum-known-h-2 Inv-loop μ-loop
 enum-known-h-2 c = search needs
@@ -58,30 +61,16 @@ enum-told-3 : tie.Need-enum-told-3 Inv-loop μ-loop
 enum-told-3 c = search needs
 
 returns-3 : tie.Need-returns-3 Inv-loop μ-loop
-returns-3 c =
-    right-end _ _ _ _
-    (streamed-next _ _ _ (c .before .before .before .before .before .before .next-byte .ensures) _ _ _ (c .before .before .before .g .given .1))
-    (streamed-end _ _ _ (c .before .before .before .before .before .next-byte2 .ensures) (c .enum-told3 .given .1)) ∙
-    (c .before .before .before .before .before .before .before .loop .inv)
+returns-3 c = right-end _ _ _ _ (streamed-next _ _ _ (c .before .before .before .before .before .before .next-byte .ensures) _ _ _ (c .before .before .before .g .given .1)) (streamed-end _ _ _ (c .before .before .before .before .before .next-byte2 .ensures) (c .enum-told3 .given .1)) ∙ (c .before .before .before .before .before .before .before .loop .inv)
 
 loop-less : tie.Need-loop-less Inv-loop μ-loop
-loop-less c =
-    shorter _ _ _ (streamed-next _ _ _ (c .before .before .before .before .before .before .before .before .next-byte .ensures) _ _ _
-    (c .before .before .before .before .before .g .given .1))
+loop-less c = shorter _ _ _ (streamed-next _ _ _ (c .before .before .before .before .before .before .before .before .next-byte .ensures) _ _ _ (c .before .before .before .before .before .g .given .1))
 
 loop-again : tie.Need-loop-again Inv-loop μ-loop
-loop-again c =
-    both-on _ _ _ _ (streamed-next _ _ _ (c .before .before .before .before .before .before .before .before .next-byte .ensures) _ _ _
-    (c .before .before .before .before .before .g .given .1)) _ _
-    (streamed-next _ _ _ (c .before .before .before .before .before .before .before .next-byte2 .ensures) _ _ _ (c .before .before .h2 .given .1))
-    (c .if1 .taken) ∙ (c .before .before .before .before .before .before .before .before .before .loop .inv)
+loop-again c = both-on _ _ _ _ (streamed-next _ _ _ (c .before .before .before .before .before .before .before .before .next-byte .ensures) _ _ _ (c .before .before .before .before .before .g .given .1)) _ _ (streamed-next _ _ _ (c .before .before .before .before .before .before .before .next-byte2 .ensures) _ _ _ (c .before .before .h2 .given .1)) (c .if1 .taken) ∙ (c .before .before .before .before .before .before .before .before .before .loop .inv)
 
 returns-4 : tie.Need-returns-4 Inv-loop μ-loop
-returns-4 c =
-    both-not _ _ _ _ (streamed-next _ _ _ (c .before .before .before .before .before .before .before .before .next-byte .ensures) _ _ _
-    (c .before .before .before .before .before .g .given .1)) _ _
-    (streamed-next _ _ _ (c .before .before .before .before .before .before .before .next-byte2 .ensures) _ _ _ (c .before .before .h2 .given .1))
-    (c .if1 .left) ∙ (c .before .before .before .before .before .before .before .before .before .loop .inv)
+returns-4 c = both-not _ _ _ _ (streamed-next _ _ _ (c .before .before .before .before .before .before .before .before .next-byte .ensures) _ _ _ (c .before .before .before .before .before .g .given .1)) _ _ (streamed-next _ _ _ (c .before .before .before .before .before .before .before .next-byte2 .ensures) _ _ _ (c .before .before .h2 .given .1)) (c .if1 .left) ∙ (c .before .before .before .before .before .before .before .before .before .loop .inv)
 
 pub same-text-spec : {M : Type 1} → statement M
 same-text-spec =
@@ -89,6 +78,7 @@ same-text-spec =
     (tie.spec
     Inv-loop
     μ-loop
+    plain-prefix-requires
     loop-holds
     next-byte-requires
     next-byte-requires-2

@@ -1,13 +1,22 @@
 use borrow.Author.Needs.{needs}
 use native.Mathlib.Omega.{arith}
-use lib.ListN.{length}
-use Prim.Native.Nat.{_<_}
-use mathlib.Core.Path.{_≡_, ap, _∙_}
-use Rattle.decode.specs.Decode.{decodedFrom, stream}
-use Rattle.decode.specs.Same.{keyFrom, keyOf}
+use lib.ListN.{length, getD, drop}
+use Prim.Native.Nat.{ℕ, _≤_, _<_, _-_, _+_, _*_}
+use mathlib.Core.Path.{_≡_, refl, sym, ap, _∙_}
+use mathlib.Core.List.{List, [], _∷_}
+use borrow.Author.Tests.{eq-eqb, ne-eqb, le-leb, lt-leb, lt-ltb}
+use Rattle.decode.specs.Decode.{decodedFrom}
+use Rattle.decode.specs.Same.{same, keyOf}
+use Rattle.decode.specs.Plain.{plain, PlainRun}
 use Rattle.decode.proofs.DecodeLaws.{stream-start, streamed-next, streamed-end, shorter, key-end, key-on}
+use Rattle.decode.specs.Decode.{decodedFrom, stream}
+use Rattle.decode.specs.Same.{keyFrom}
 use Rattle.decode.proofs.text_key.Statement.{statement}
 use Rattle.decode.proofs.text_key.Tie as tie
+use Rattle.decode.proofs.text_key.Reads as reads
+use Rattle.decode.proofs.text_key.Lts as lts
+use Rattle.decode.proofs.next_byte.Reads as next-byte-reads
+use Rattle.decode.proofs.plain.mix.Reads as mix-reads
 
 abbrev Inv-loop : tie.InvT-loop
 Inv-loop s at h₀ j₀ k₀ h j k = (h < 4294967296) × (keyFrom h (stream s j k) ≡ keyOf (decodedFrom s at))
@@ -33,23 +42,14 @@ cast-result c = omega arith
 returns : tie.Need-returns Inv-loop μ-loop
 returns c = key-end _ _ (streamed-end _ _ _ (c .before .before .next-byte .ensures) (c .enum-told .given .1)) ∙ (c .before .before .before .loop .inv .1)
 
-mul-h : tie.Need-mul-h Inv-loop μ-loop
-mul-h c = omega arith
-
-cast-h : tie.Need-cast-h Inv-loop μ-loop
-cast-h c = omega arith
-
-add-h : tie.Need-add-h Inv-loop μ-loop
-add-h c = omega arith
+mix-requires : tie.Need-mix-requires Inv-loop μ-loop
+mix-requires c κs = (c .before .before .before .before .loop .inv .0)
 
 loop-less : tie.Need-loop-less Inv-loop μ-loop
-loop-less c = shorter _ _ _ (streamed-next _ _ _ (c .before .before .before .next-byte .ensures) _ _ _ (c .before .g .given .1))
+loop-less c = shorter _ _ _ (streamed-next _ _ _ (c .before .before .before .before .next-byte .ensures) _ _ _ (c .before .before .g .given .1))
 
 loop-again : tie.Need-loop-again Inv-loop μ-loop
-loop-again c = (
-  omega arith,
-  key-on _ _ _ _ (streamed-next _ _ _ (c .before .before .before .next-byte .ensures) _ _ _ (c .before .g .given .1)) ∙ (c .before .before .before .before .loop .inv .1),
-)
+loop-again c = (omega (arith, (c .mix .ensures)), key-on _ _ _ _ (streamed-next _ _ _ (c .before .before .before .before .next-byte .ensures) _ _ _ (c .before .before .g .given .1)) _ (c .mix .ensures) ∙ (c .before .before .before .before .before .loop .inv .1))
 
 pub text-key-spec : {M : Type 1} → statement M
 text-key-spec =
@@ -63,8 +63,6 @@ text-key-spec =
     enum-told
     cast-result
     returns
-    mul-h
-    cast-h
-    add-h
+    mix-requires
     loop-less
     loop-again)

@@ -1,4 +1,3 @@
-use borrow.Author.Needs.{needs}
 use native.Mathlib.Omega.{arith}
 use lib.ListN.{length, getD, drop}
 use Prim.Native.Nat.{ℕ, _≤_, _<_, _-_, _+_, _*_}
@@ -8,74 +7,52 @@ use mathlib.Core.Bool.{Bool, true, false}
 use Rattle.decode.specs.Decode.{decodedFrom}
 use Rattle.json.specs.Names.{has}
 use Rattle.json.specs.Stack.{namesOn}
-use Rattle.json.proofs.SeenLaws.{known-found, known-on, known-none, key-at}
+use Rattle.json.proofs.SeenLaws.{not-known}
+use borrow.Author.Needs.{needs}
 use Rattle.json.proofs.seen.is_known.Statement.{statement}
 use Rattle.json.proofs.seen.is_known.Tie as tie
 use Rattle.json.proofs.seen.is_known.Reads as reads
 use Rattle.json.proofs.seen.is_known.Lts as lts
-use Rattle.json.proofs.seen.same_name.Reads as same-name-reads
+use Rattle.json.proofs.seen.has_key.Reads as has-key-reads
+use Rattle.json.proofs.seen.is_among.Reads as is-among-reads
 
-abbrev Inv-loop : tie.InvT-loop
-Inv-loop s at key places keys base n k₀ k = (k ≤ n) × (has (decodedFrom s at) (namesOn s places base k) ≡ has (decodedFrom s at) (namesOn s places base n))
+add-end : tie.Need-add-end
+add-end c = omega arith
 
-abbrev μ-loop : tie.MeasureT-loop
-μ-loop s at key places keys base n k₀ k = k
+mul-has-key : tie.Need-mul-has-key
+mul-has-key c = search needs
 
-loop-holds : tie.Need-loop-holds Inv-loop μ-loop
-loop-holds c = (omega arith, refl)
+sub-has-key : tie.Need-sub-has-key
+sub-has-key c = search needs
 
-sub-k : tie.Need-sub-k Inv-loop μ-loop
-sub-k c = omega arith
+part-has-key-start : tie.Need-part-has-key-start
+part-has-key-start c = search needs
 
-add-p : tie.Need-add-p Inv-loop μ-loop
-add-p c = omega arith
+part-has-key-end : tie.Need-part-has-key-end
+part-has-key-end c = search needs
 
-mul-p : tie.Need-mul-p Inv-loop μ-loop
-mul-p c = omega arith
+has-key-requires : tie.Need-has-key-requires
+has-key-requires c κs = search needs
 
-shared-slice-read-p : tie.Need-shared-slice-read-p Inv-loop μ-loop
-shared-slice-read-p c = omega arith
+is-among-requires : tie.Need-is-among-requires
+is-among-requires c κs = ((c .before .before .before .before .before .before .pre .0), ((c .before .before .before .before .before .before .pre .1 .0), ((c .before .before .before .before .before .before .pre .1 .1 .0), (c .before .before .before .before .before .before .pre .1 .1 .1))))
 
-add-q : tie.Need-add-q Inv-loop μ-loop
-add-q c = omega arith
+returns : tie.Need-returns
+returns c = search needs
 
-mul-q : tie.Need-mul-q Inv-loop μ-loop
-mul-q c = omega arith
-
-shared-slice-read-q : tie.Need-shared-slice-read-q Inv-loop μ-loop
-shared-slice-read-q c = omega arith
-
-same-name-requires : tie.Need-same-name-requires Inv-loop μ-loop
-same-name-requires c κs = ((c .before .before .before .before .before .before .before .pre .0), key-at _ _ _ _ _ _ (c .before .before .before .before .before .before .before .pre .1 .1 .1) (omega arith))
-
-returns : tie.Need-returns Inv-loop μ-loop
-returns c = known-found (c .before .before .before .before .before .before .before .before .before .args .s .now) (c .before .before .before .before .before .before .before .before .before .args .places .now) (c .before .before .before .before .before .before .before .before .before .args .base) (decodedFrom (c .before .before .before .before .before .before .before .before .before .args .s .now) (c .before .before .before .before .before .before .before .before .before .args .at)) (c .before .before .before .before .before .loop .k) (c .before .before .before .before .loop-test .taken) (sym (c .if1 .taken) ∙ (c .before .same-name .ensures)) ∙ (c .before .before .before .before .before .loop .inv .1)
-
-loop-less : tie.Need-loop-less Inv-loop μ-loop
-loop-less c = omega arith
-
-loop-again : tie.Need-loop-again Inv-loop μ-loop
-loop-again c = (omega arith, known-on (c .before .before .before .before .before .before .before .before .before .args .s .now) (c .before .before .before .before .before .before .before .before .before .args .places .now) (c .before .before .before .before .before .before .before .before .before .args .base) (decodedFrom (c .before .before .before .before .before .before .before .before .before .args .s .now) (c .before .before .before .before .before .before .before .before .before .args .at)) (c .before .before .before .before .before .loop .k) (c .before .before .before .before .loop-test .taken) (sym (c .if1 .left) ∙ (c .before .same-name .ensures)) ∙ (c .before .before .before .before .before .loop .inv .1))
-
-returns-2 : tie.Need-returns-2 Inv-loop μ-loop
-returns-2 c = known-none (c .before .before .before .before .before .args .s .now) (c .before .before .before .before .before .args .places .now) (c .before .before .before .before .before .args .base) (decodedFrom (c .before .before .before .before .before .args .s .now) (c .before .before .before .before .before .args .at)) (c .before .loop .k) (c .loop-test .left) ∙ (c .before .loop .inv .1)
+returns-2 : tie.Need-returns-2
+returns-2 c = not-known _ _ _ _ _ _ (c .before .before .before .before .before .before .pre .0) _ (c .before .before .before .before .before .before .pre .1 .1 .0) (c .before .before .before .before .before .before .pre .1 .1 .1) (sym (c .if1 .left) ∙ (c .before .has-key .ensures))
 
 pub is-known-spec : {M : Type 1} → statement M
 is-known-spec =
     tie.close
     (tie.spec
-    Inv-loop
-    μ-loop
-    loop-holds
-    sub-k
-    add-p
-    mul-p
-    shared-slice-read-p
-    add-q
-    mul-q
-    shared-slice-read-q
-    same-name-requires
+    add-end
+    mul-has-key
+    sub-has-key
+    part-has-key-start
+    part-has-key-end
+    has-key-requires
+    is-among-requires
     returns
-    loop-less
-    loop-again
     returns-2)

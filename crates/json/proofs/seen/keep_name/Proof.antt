@@ -13,17 +13,13 @@ use Rattle.json.proofs.seen.keep_name.Statement.{statement}
 use Rattle.json.proofs.seen.keep_name.Tie as tie
 use Rattle.json.proofs.seen.keep_name.Reads as reads
 use Rattle.json.proofs.seen.keep_name.Lts as lts
-use Rattle.decode.proofs.text_key.Reads as text-key-reads
 use Rattle.json.proofs.seen.is_known.Reads as is-known-reads
 
 returns : tie.Need-returns
 returns c = name-over (c .before .before .before .before .args .s .now) (c .before .before .before .before .args .at) (c .before .before .before .before .args .base) (c .before .before .before .before .args .names) (c .before .before .before .before .args .places .now) (c .before .before .before .before .args .keys .now) (c .if1 .taken)
 
-text-key-requires : tie.Need-text-key-requires
-text-key-requires c κs = search needs
-
 is-known-requires : tie.Need-is-known-requires
-is-known-requires c κs = ((c .before .before .text-key .ensures), (omega (arith, (c .before .before .before .before .before .before .before .pre .0) (c .before .before .before .if1 .left)), (omega (arith, (c .before .before .before .before .before .before .before .pre .1 .0) (c .before .before .before .if1 .left)), (c .before .before .before .before .before .before .before .pre .1 .1 .1))))
+is-known-requires c κs = ((c .before .before .before .before .before .before .pre .0), (omega (arith, (c .before .before .before .before .before .before .pre .1 .0) (c .before .before .if1 .left)), (omega (arith, (c .before .before .before .before .before .before .pre .1 .1 .0) (c .before .before .if1 .left)), (c .before .before .before .before .before .before .pre .1 .1 .1 .1))))
 
 same-length : tie.Need-same-length
 same-length c = search needs
@@ -32,25 +28,25 @@ same-length-2 : tie.Need-same-length-2
 same-length-2 c = search needs
 
 returns-2 : tie.Need-returns-2
-returns-2 c = name-known (c .before .before .before .before .before .before .before .before .before .args .s .now) (c .before .before .before .before .before .before .before .before .before .args .at) (c .before .before .before .before .before .before .before .before .before .args .base) (c .before .before .before .before .before .before .before .before .before .args .names) (c .before .before .before .before .before .before .before .before .before .args .places .now) (c .before .before .before .before .before .before .before .before .before .args .keys .now) (c .before .before .before .before .before .if1 .left) (sym (c .if2 .taken) ∙ (c .before .is-known .ensures))
+returns-2 c = name-known (c .before .before .before .before .before .before .before .before .args .s .now) (c .before .before .before .before .before .before .before .before .args .at) (c .before .before .before .before .before .before .before .before .args .base) (c .before .before .before .before .before .before .before .before .args .names) (c .before .before .before .before .before .before .before .before .args .places .now) (c .before .before .before .before .before .before .before .before .args .keys .now) (c .before .before .before .before .if1 .left) (sym (c .if2 .taken) ∙ (c .before .is-known .ensures))
 
 add-places : tie.Need-add-places
-add-places c = omega (arith, (c .before .before .before .before .before .before .before .before .before .pre .0) (c .before .before .before .before .before .if1 .left))
+add-places c = omega (arith, (c .before .before .before .before .before .before .before .before .pre .1 .0) (c .before .before .before .before .if1 .left))
 
 mul-places : tie.Need-mul-places
-mul-places c = omega (arith, (c .before .before .before .before .before .before .before .before .before .pre .0) (c .before .before .before .before .before .if1 .left))
+mul-places c = omega (arith, (c .before .before .before .before .before .before .before .before .pre .1 .0) (c .before .before .before .before .if1 .left))
 
 slice-write-places : tie.Need-slice-write-places
-slice-write-places c = (c .before .before .before .before .before .before .before .before .before .pre .0) (c .before .before .before .before .before .if1 .left)
+slice-write-places c = (c .before .before .before .before .before .before .before .before .pre .1 .0) (c .before .before .before .before .if1 .left)
 
 add-keys : tie.Need-add-keys
-add-keys c = omega (arith, (c .before .before .before .before .before .before .before .before .before .pre .1 .0) (c .before .before .before .before .before .if1 .left))
+add-keys c = omega (arith, (c .before .before .before .before .before .before .before .before .pre .1 .1 .0) (c .before .before .before .before .if1 .left))
 
 mul-keys : tie.Need-mul-keys
-mul-keys c = omega (arith, (c .before .before .before .before .before .before .before .before .before .pre .1 .0) (c .before .before .before .before .before .if1 .left))
+mul-keys c = omega (arith, (c .before .before .before .before .before .before .before .before .pre .1 .1 .0) (c .before .before .before .before .if1 .left))
 
 slice-write-keys : tie.Need-slice-write-keys
-slice-write-keys c = (c .before .before .before .before .before .before .before .before .before .pre .1 .0) (c .before .before .before .before .before .if1 .left)
+slice-write-keys c = (c .before .before .before .before .before .before .before .before .pre .1 .1 .0) (c .before .before .before .before .if1 .left)
 
 add-t16 : tie.Need-add-t16
 add-t16 c = search needs
@@ -62,14 +58,13 @@ same-length-4 : tie.Need-same-length-4
 same-length-4 c = search needs
 
 returns-3 : tie.Need-returns-3
-returns-3 c = name-new (c .before .before .before .before .before .before .before .before .before .args .s .now) (c .before .before .before .before .before .before .before .before .before .args .at) (c .before .before .before .before .before .before .before .before .before .args .base) (c .before .before .before .before .before .before .before .before .before .args .names) (c .before .before .before .before .before .before .before .before .before .args .places .now) (c .before .before .before .before .before .before .before .before .before .args .keys .now) (c .before .before .before .before .before .if1 .left) (sym (c .if2 .left) ∙ (c .before .is-known .ensures)) _ (c .before .before .before .before .text-key .ensures)
+returns-3 c = name-new (c .before .before .before .before .before .before .before .before .args .s .now) (c .before .before .before .before .before .before .before .before .args .at) (c .before .before .before .before .before .before .before .before .args .base) (c .before .before .before .before .before .before .before .before .args .names) (c .before .before .before .before .before .before .before .before .args .places .now) (c .before .before .before .before .before .before .before .before .args .keys .now) (c .before .before .before .before .if1 .left) (sym (c .if2 .left) ∙ (c .before .is-known .ensures)) _ (c .before .before .before .before .before .before .before .before .pre .0)
 
 pub keep-name-spec : {M : Type 1} → statement M
 keep-name-spec =
     tie.close
     (tie.spec
     returns
-    text-key-requires
     is-known-requires
     same-length
     same-length-2

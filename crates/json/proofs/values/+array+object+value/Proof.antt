@@ -8,7 +8,7 @@ use mathlib.Core.Bool.{Bool, true, false}
 use Rattle.decode.specs.Decode.{decodedFrom}
 use Rattle.json.specs.Names.{has}
 use Rattle.json.specs.Stack.{namesOn}
-use Rattle.json.proofs.PassLaws.{ArrayPass, array-start, array-stop, array-bad, array-close, array-less, array-again, array-zero, array-empty, array-told, ObjectPass, object-start, object-nameless, object-stop, object-bad, object-close, object-less, object-again, object-zero, object-empty, object-told, name-inside, kept-then, kept-less, kept-most, kept-few, kept-places, kept-keys, kept-same}
+use Rattle.json.proofs.PassLaws.{ArrayPass, array-start, array-stop, array-bad, array-close, array-less, array-again, array-zero, array-empty, array-told, ObjectPass, object-start, object-nameless, object-stop, object-bad, object-close, object-less, object-again, object-zero, object-empty, object-told, name-far, name-keyed, kept-then, kept-less, kept-most, kept-few, kept-places, kept-keys, kept-same}
 use Rattle.json.proofs.ValueLaws.{value-array, value-object, value-leaf}
 use Rattle.tokens.proofs.TextLaws.{inside}
 use Prim.Native.Nat.{ℕ, _<_}
@@ -26,10 +26,10 @@ use Rattle.json.proofs.values.+array+object+value.Lts-value as value-lt
 use Rattle.json.proofs.seen.either.Reads as either-reads
 use Rattle.json.proofs.seen.keep_name.Reads as keep-name-reads
 use Rattle.json.proofs.values.leaf.Reads as leaf-reads
+use Rattle.json.proofs.values.name_key.Reads as name-key-reads
 use Rattle.json.proofs.values.plain.Reads as plain-reads
 use Rattle.tokens.proofs.Cursor.after_element.Reads as after-element-reads
 use Rattle.tokens.proofs.Cursor.after_member.Reads as after-member-reads
-use Rattle.tokens.proofs.Cursor.name.Reads as name-reads
 use Rattle.tokens.proofs.Cursor.skip_blanks.Reads as skip-blanks-reads
 use Rattle.tokens.proofs.peek.Reads as peek-reads
 use Rattle.json.proofs.values.+array+object+value.{statement}
@@ -443,8 +443,8 @@ object-returns : (t : ℕ) → object-lts.Need-returns (
   skip-blanks-reads.Learnt,
   peek-reads.Asked,
   peek-reads.Learnt,
-  name-reads.Asked,
-  name-reads.Learnt,
+  name-key-reads.Asked,
+  name-key-reads.Learnt,
   keep-name-reads.Asked,
   keep-name-reads.Learnt,
   value-below t,
@@ -461,8 +461,8 @@ object-skip-blanks-requires : (t : ℕ) → object-lts.Need-skip-blanks-requires
   skip-blanks-reads.Learnt,
   peek-reads.Asked,
   peek-reads.Learnt,
-  name-reads.Asked,
-  name-reads.Learnt,
+  name-key-reads.Asked,
+  name-key-reads.Learnt,
   keep-name-reads.Asked,
   keep-name-reads.Learnt,
   value-below t,
@@ -479,8 +479,8 @@ object-peek-requires : (t : ℕ) → object-lts.Need-peek-requires (
   skip-blanks-reads.Learnt,
   peek-reads.Asked,
   peek-reads.Learnt,
-  name-reads.Asked,
-  name-reads.Learnt,
+  name-key-reads.Asked,
+  name-key-reads.Learnt,
   keep-name-reads.Asked,
   keep-name-reads.Learnt,
   value-below t,
@@ -497,8 +497,8 @@ object-add-t25 : (t : ℕ) → object-lts.Need-add-t25 (
   skip-blanks-reads.Learnt,
   peek-reads.Asked,
   peek-reads.Learnt,
-  name-reads.Asked,
-  name-reads.Learnt,
+  name-key-reads.Asked,
+  name-key-reads.Learnt,
   keep-name-reads.Asked,
   keep-name-reads.Learnt,
   value-below t,
@@ -515,8 +515,8 @@ object-returns-2 : (t : ℕ) → object-lts.Need-returns-2 (
   skip-blanks-reads.Learnt,
   peek-reads.Asked,
   peek-reads.Learnt,
-  name-reads.Asked,
-  name-reads.Learnt,
+  name-key-reads.Asked,
+  name-key-reads.Learnt,
   keep-name-reads.Asked,
   keep-name-reads.Learnt,
   value-below t,
@@ -533,8 +533,8 @@ object-loop-holds : (t : ℕ) → object-lts.Need-loop-holds (
   skip-blanks-reads.Learnt,
   peek-reads.Asked,
   peek-reads.Learnt,
-  name-reads.Asked,
-  name-reads.Learnt,
+  name-key-reads.Asked,
+  name-key-reads.Learnt,
   keep-name-reads.Asked,
   keep-name-reads.Learnt,
   value-below t,
@@ -546,13 +546,13 @@ object-loop-holds : (t : ℕ) → object-lts.Need-loop-holds (
 ) (object-at t) object.Post object-Inv-loop object-μ-loop
 object-loop-holds t c = object-start _ _ _ _ _ _ _ (c .before .before .skip-blanks .ensures)
 
-object-name-requires : (t : ℕ) → object-lts.Need-name-requires (
+object-name-key-requires : (t : ℕ) → object-lts.Need-name-key-requires (
   skip-blanks-reads.Asked,
   skip-blanks-reads.Learnt,
   peek-reads.Asked,
   peek-reads.Learnt,
-  name-reads.Asked,
-  name-reads.Learnt,
+  name-key-reads.Asked,
+  name-key-reads.Learnt,
   keep-name-reads.Asked,
   keep-name-reads.Learnt,
   value-below t,
@@ -562,15 +562,15 @@ object-name-requires : (t : ℕ) → object-lts.Need-name-requires (
   after-member-reads.Asked,
   after-member-reads.Learnt,
 ) (object-at t) object.Post object-Inv-loop object-μ-loop
-object-name-requires t c κs = search needs
+object-name-key-requires t c κs = search needs
 
 object-enum-known-k : (t : ℕ) → object-lts.Need-enum-known-k (
   skip-blanks-reads.Asked,
   skip-blanks-reads.Learnt,
   peek-reads.Asked,
   peek-reads.Learnt,
-  name-reads.Asked,
-  name-reads.Learnt,
+  name-key-reads.Asked,
+  name-key-reads.Learnt,
   keep-name-reads.Asked,
   keep-name-reads.Learnt,
   value-below t,
@@ -587,8 +587,8 @@ object-enum-told : (t : ℕ) → object-lts.Need-enum-told (
   skip-blanks-reads.Learnt,
   peek-reads.Asked,
   peek-reads.Learnt,
-  name-reads.Asked,
-  name-reads.Learnt,
+  name-key-reads.Asked,
+  name-key-reads.Learnt,
   keep-name-reads.Asked,
   keep-name-reads.Learnt,
   value-below t,
@@ -605,8 +605,8 @@ object-same-length : (t : ℕ) → object-lts.Need-same-length (
   skip-blanks-reads.Learnt,
   peek-reads.Asked,
   peek-reads.Learnt,
-  name-reads.Asked,
-  name-reads.Learnt,
+  name-key-reads.Asked,
+  name-key-reads.Learnt,
   keep-name-reads.Asked,
   keep-name-reads.Learnt,
   value-below t,
@@ -623,8 +623,8 @@ object-same-length-2 : (t : ℕ) → object-lts.Need-same-length-2 (
   skip-blanks-reads.Learnt,
   peek-reads.Asked,
   peek-reads.Learnt,
-  name-reads.Asked,
-  name-reads.Learnt,
+  name-key-reads.Asked,
+  name-key-reads.Learnt,
   keep-name-reads.Asked,
   keep-name-reads.Learnt,
   value-below t,
@@ -641,8 +641,8 @@ object-returns-3 : (t : ℕ) → object-lts.Need-returns-3 (
   skip-blanks-reads.Learnt,
   peek-reads.Asked,
   peek-reads.Learnt,
-  name-reads.Asked,
-  name-reads.Learnt,
+  name-key-reads.Asked,
+  name-key-reads.Learnt,
   keep-name-reads.Asked,
   keep-name-reads.Learnt,
   value-below t,
@@ -652,15 +652,15 @@ object-returns-3 : (t : ℕ) → object-lts.Need-returns-3 (
   after-member-reads.Asked,
   after-member-reads.Learnt,
 ) (object-at t) object.Post object-Inv-loop object-μ-loop
-object-returns-3 t c = (object-told _ _ _ _ _ (c .before .before .before .before .before .before .before .if1 .left) (c .before .before .before .before .before .before .skip-blanks .ensures) (c .before .before .before .before .before .peek .ensures) _ (c .before .before .before .before .if2 .left) (object-nameless ((c .before .before .before .before .before .before .before .before .before .before .before .args .depth) - 1) (c .before .before .before .before .before .before .before .before .before .before .before .args .s .now) (c .before .before .before .before .before .before .before .before .before .before .before .args .at) _ (c .before .before .before .before .before .before .before .before .before .before .before .args .used) _ _ (c .before .before .before .loop .places) (c .before .before .before .loop .keys) (c .before .before .before .loop .bad) (c .before .before .before .loop .n) (c .before .before .before .loop .i) (c .before .before .before .loop .inv) _ (c .before .before .name .ensures) (c .enum-told .given .1)), ((c .before .before .before .loop .inv .places-kept), (c .before .before .before .loop .inv .keys-kept)))
+object-returns-3 t c = (object-told _ _ _ _ _ (c .before .before .before .before .before .before .before .if1 .left) (c .before .before .before .before .before .before .skip-blanks .ensures) (c .before .before .before .before .before .peek .ensures) _ (c .before .before .before .before .if2 .left) (object-nameless ((c .before .before .before .before .before .before .before .before .before .before .before .args .depth) - 1) (c .before .before .before .before .before .before .before .before .before .before .before .args .s .now) (c .before .before .before .before .before .before .before .before .before .before .before .args .at) _ (c .before .before .before .before .before .before .before .before .before .before .before .args .used) _ _ (c .before .before .before .loop .places) (c .before .before .before .loop .keys) (c .before .before .before .loop .bad) (c .before .before .before .loop .n) (c .before .before .before .loop .i) (c .before .before .before .loop .inv) _ (c .before .before .name-key .ensures) (c .enum-told .given .1)), ((c .before .before .before .loop .inv .places-kept), (c .before .before .before .loop .inv .keys-kept)))
 
 object-add-keep-name : (t : ℕ) → object-lts.Need-add-keep-name (
   skip-blanks-reads.Asked,
   skip-blanks-reads.Learnt,
   peek-reads.Asked,
   peek-reads.Learnt,
-  name-reads.Asked,
-  name-reads.Learnt,
+  name-key-reads.Asked,
+  name-key-reads.Learnt,
   keep-name-reads.Asked,
   keep-name-reads.Learnt,
   value-below t,
@@ -670,15 +670,15 @@ object-add-keep-name : (t : ℕ) → object-lts.Need-add-keep-name (
   after-member-reads.Asked,
   after-member-reads.Learnt,
 ) (object-at t) object.Post object-Inv-loop object-μ-loop
-object-add-keep-name t c = omega (arith, name-inside _ _ _ _ (sym (c .before .before .before .name .ensures) ∙ (c .before .k .given .1)) .0)
+object-add-keep-name t c = omega (arith, name-far (c .before .before .before .before .before .before .before .before .before .before .before .before .args .s .now) (c .before .before .before .before .loop .i) _ (c .before .before .before .name-key .ensures) _ _ (c .before .k .given .1) .0)
 
 object-keep-name-requires : (t : ℕ) → object-lts.Need-keep-name-requires (
   skip-blanks-reads.Asked,
   skip-blanks-reads.Learnt,
   peek-reads.Asked,
   peek-reads.Learnt,
-  name-reads.Asked,
-  name-reads.Learnt,
+  name-key-reads.Asked,
+  name-key-reads.Learnt,
   keep-name-reads.Asked,
   keep-name-reads.Learnt,
   value-below t,
@@ -688,15 +688,15 @@ object-keep-name-requires : (t : ℕ) → object-lts.Need-keep-name-requires (
   after-member-reads.Asked,
   after-member-reads.Learnt,
 ) (object-at t) object.Post object-Inv-loop object-μ-loop
-object-keep-name-requires t c κs = ((λ h. omega (arith, (c .before .before .before .before .before .before .before .before .before .before .if1 .left), (c .before .before .before .before .before .before .loop .inv .forward), (c .before .before .before .before .before .before .before .before .before .before .before .before .before .before .pre .1 .0), (c .before .before .before .before .before .before .loop .inv .places-kept .long), name-inside _ _ _ _ (sym (c .before .before .before .before .before .name .ensures) ∙ (c .before .before .before .k .given .1)) .0)), ((λ h. omega (arith, (c .before .before .before .before .before .before .before .before .before .before .if1 .left), (c .before .before .before .before .before .before .loop .inv .forward), (c .before .before .before .before .before .before .before .before .before .before .before .before .before .before .pre .1 .1), (c .before .before .before .before .before .before .loop .inv .keys-kept .long), name-inside _ _ _ _ (sym (c .before .before .before .before .before .name .ensures) ∙ (c .before .before .before .k .given .1)) .0)), ((c .before .before .before .before .before .before .loop .inv .few), (c .before .before .before .before .before .before .loop .inv .agree))))
+object-keep-name-requires t c κs = (name-keyed (c .before .before .before .before .before .before .before .before .before .before .before .before .before .before .args .s .now) (c .before .before .before .before .before .before .loop .i) _ (c .before .before .before .before .before .name-key .ensures) _ _ (c .before .before .before .k .given .1), ((λ h. omega (arith, (c .before .before .before .before .before .before .before .before .before .before .if1 .left), (c .before .before .before .before .before .before .loop .inv .forward), (c .before .before .before .before .before .before .before .before .before .before .before .before .before .before .pre .1 .0), (c .before .before .before .before .before .before .loop .inv .places-kept .long), name-far (c .before .before .before .before .before .before .before .before .before .before .before .before .before .before .args .s .now) (c .before .before .before .before .before .before .loop .i) _ (c .before .before .before .before .before .name-key .ensures) _ _ (c .before .before .before .k .given .1) .0)), ((λ h. omega (arith, (c .before .before .before .before .before .before .before .before .before .before .if1 .left), (c .before .before .before .before .before .before .loop .inv .forward), (c .before .before .before .before .before .before .before .before .before .before .before .before .before .before .pre .1 .1), (c .before .before .before .before .before .before .loop .inv .keys-kept .long), name-far (c .before .before .before .before .before .before .before .before .before .before .before .before .before .before .args .s .now) (c .before .before .before .before .before .before .loop .i) _ (c .before .before .before .before .before .name-key .ensures) _ _ (c .before .before .before .k .given .1) .0)), ((c .before .before .before .before .before .before .loop .inv .few), (c .before .before .before .before .before .before .loop .inv .agree)))))
 
 object-sub-value : (t : ℕ) → object-lts.Need-sub-value (
   skip-blanks-reads.Asked,
   skip-blanks-reads.Learnt,
   peek-reads.Asked,
   peek-reads.Learnt,
-  name-reads.Asked,
-  name-reads.Learnt,
+  name-key-reads.Asked,
+  name-key-reads.Learnt,
   keep-name-reads.Asked,
   keep-name-reads.Learnt,
   value-below t,
@@ -713,8 +713,8 @@ object-add-value : (t : ℕ) → object-lts.Need-add-value (
   skip-blanks-reads.Learnt,
   peek-reads.Asked,
   peek-reads.Learnt,
-  name-reads.Asked,
-  name-reads.Learnt,
+  name-key-reads.Asked,
+  name-key-reads.Learnt,
   keep-name-reads.Asked,
   keep-name-reads.Learnt,
   value-below t,
@@ -724,15 +724,15 @@ object-add-value : (t : ℕ) → object-lts.Need-add-value (
   after-member-reads.Asked,
   after-member-reads.Learnt,
 ) (object-at t) object.Post object-Inv-loop object-μ-loop
-object-add-value t c = omega (arith, (c .before .before .before .before .before .before .before .before .before .before .before .before .before .before .before .before .before .before .before .before .before .pre .1 .0), (c .before .before .before .before .before .before .before .before .before .before .before .before .before .loop .inv .places-kept .long), (kept-places _ _ _ _ _ _ (c .before .before .before .before .before .before .keep-name .ensures)) .long, kept-most _ _ _ _ _ _ (c .before .before .before .before .before .before .keep-name .ensures), kept-few _ _ _ _ _ _ (c .before .before .before .before .before .before .keep-name .ensures) (c .before .before .before .before .before .before .before .before .before .before .before .before .before .loop .inv .few), name-inside _ _ _ _ (sym (c .before .before .before .before .before .before .before .before .before .before .before .before .name .ensures) ∙ (c .before .before .before .before .before .before .before .before .before .before .k .given .1)) .0, name-inside _ _ _ _ (sym (c .before .before .before .before .before .before .before .before .before .before .before .before .name .ensures) ∙ (c .before .before .before .before .before .before .before .before .before .before .k .given .1)) .1, (c .before .before .before .before .before .before .before .before .before .before .before .before .before .loop .inv .forward), (c .before .before .before .before .before .before .before .before .before .before .before .before .before .before .before .before .before .if1 .left))
+object-add-value t c = let g = (c .before .before .before .before .before .before .before .before .before .before .before .before .before .before .before .before .before .before .before .before .before .good) in omega (arith, (c .before .before .before .before .before .before .before .before .before .before .before .before .before .before .before .before .before .before .before .before .before .pre .1 .0), (c .before .before .before .before .before .before .before .before .before .before .before .before .before .loop .inv .places-kept .long), (kept-places _ _ _ _ _ _ (c .before .before .before .before .before .before .keep-name .ensures)) .long, kept-most _ _ _ _ _ _ (c .before .before .before .before .before .before .keep-name .ensures), kept-few _ _ _ _ _ _ (c .before .before .before .before .before .before .keep-name .ensures) (c .before .before .before .before .before .before .before .before .before .before .before .before .before .loop .inv .few), name-far (c .before .before .before .before .before .before .before .before .before .before .before .before .before .before .before .before .before .before .before .before .before .args .s .now) (c .before .before .before .before .before .before .before .before .before .before .before .before .before .loop .i) _ (c .before .before .before .before .before .before .before .before .before .before .before .before .name-key .ensures) _ _ (c .before .before .before .before .before .before .before .before .before .before .k .given .1) .0, name-far (c .before .before .before .before .before .before .before .before .before .before .before .before .before .before .before .before .before .before .before .before .before .args .s .now) (c .before .before .before .before .before .before .before .before .before .before .before .before .before .loop .i) _ (c .before .before .before .before .before .before .before .before .before .before .before .before .name-key .ensures) _ _ (c .before .before .before .before .before .before .before .before .before .before .k .given .1) .1, (c .before .before .before .before .before .before .before .before .before .before .before .before .before .loop .inv .forward), (c .before .before .before .before .before .before .before .before .before .before .before .before .before .before .before .before .before .if1 .left))
 
 object-value-requires : (t : ℕ) → object-lts.Need-value-requires (
   skip-blanks-reads.Asked,
   skip-blanks-reads.Learnt,
   peek-reads.Asked,
   peek-reads.Learnt,
-  name-reads.Asked,
-  name-reads.Learnt,
+  name-key-reads.Asked,
+  name-key-reads.Learnt,
   keep-name-reads.Asked,
   keep-name-reads.Learnt,
   value-below t,
@@ -742,15 +742,15 @@ object-value-requires : (t : ℕ) → object-lts.Need-value-requires (
   after-member-reads.Asked,
   after-member-reads.Learnt,
 ) (object-at t) object.Post object-Inv-loop object-μ-loop
-object-value-requires t c κs = (omega (arith, (c .before .before .before .before .before .before .before .before .before .before .before .before .before .before .before .before .before .before .before .before .before .pre .0), kept-most _ _ _ _ _ _ (c .before .before .before .before .before .before .keep-name .ensures), kept-few _ _ _ _ _ _ (c .before .before .before .before .before .before .keep-name .ensures) (c .before .before .before .before .before .before .before .before .before .before .before .before .before .loop .inv .few), name-inside _ _ _ _ (sym (c .before .before .before .before .before .before .before .before .before .before .before .before .name .ensures) ∙ (c .before .before .before .before .before .before .before .before .before .before .k .given .1)) .0, name-inside _ _ _ _ (sym (c .before .before .before .before .before .before .before .before .before .before .before .before .name .ensures) ∙ (c .before .before .before .before .before .before .before .before .before .before .k .given .1)) .1, (c .before .before .before .before .before .before .before .before .before .before .before .before .before .loop .inv .forward), (c .before .before .before .before .before .before .before .before .before .before .before .before .before .before .before .before .before .if1 .left)), (omega (arith, (c .before .before .before .before .before .before .before .before .before .before .before .before .before .before .before .before .before .before .before .before .before .pre .1 .0), (c .before .before .before .before .before .before .before .before .before .before .before .before .before .loop .inv .places-kept .long), (kept-places _ _ _ _ _ _ (c .before .before .before .before .before .before .keep-name .ensures)) .long, kept-most _ _ _ _ _ _ (c .before .before .before .before .before .before .keep-name .ensures), kept-few _ _ _ _ _ _ (c .before .before .before .before .before .before .keep-name .ensures) (c .before .before .before .before .before .before .before .before .before .before .before .before .before .loop .inv .few), name-inside _ _ _ _ (sym (c .before .before .before .before .before .before .before .before .before .before .before .before .name .ensures) ∙ (c .before .before .before .before .before .before .before .before .before .before .k .given .1)) .0, name-inside _ _ _ _ (sym (c .before .before .before .before .before .before .before .before .before .before .before .before .name .ensures) ∙ (c .before .before .before .before .before .before .before .before .before .before .k .given .1)) .1, (c .before .before .before .before .before .before .before .before .before .before .before .before .before .loop .inv .forward), (c .before .before .before .before .before .before .before .before .before .before .before .before .before .before .before .before .before .if1 .left)), omega (arith, (c .before .before .before .before .before .before .before .before .before .before .before .before .before .before .before .before .before .before .before .before .before .pre .1 .1), (c .before .before .before .before .before .before .before .before .before .before .before .before .before .loop .inv .keys-kept .long), (kept-keys _ _ _ _ _ _ (c .before .before .before .before .before .before .keep-name .ensures)) .long, kept-most _ _ _ _ _ _ (c .before .before .before .before .before .before .keep-name .ensures), kept-few _ _ _ _ _ _ (c .before .before .before .before .before .before .keep-name .ensures) (c .before .before .before .before .before .before .before .before .before .before .before .before .before .loop .inv .few), name-inside _ _ _ _ (sym (c .before .before .before .before .before .before .before .before .before .before .before .before .name .ensures) ∙ (c .before .before .before .before .before .before .before .before .before .before .k .given .1)) .0, name-inside _ _ _ _ (sym (c .before .before .before .before .before .before .before .before .before .before .before .before .name .ensures) ∙ (c .before .before .before .before .before .before .before .before .before .before .k .given .1)) .1, (c .before .before .before .before .before .before .before .before .before .before .before .before .before .loop .inv .forward), (c .before .before .before .before .before .before .before .before .before .before .before .before .before .before .before .before .before .if1 .left))))
+object-value-requires t c κs = (omega (arith, (c .before .before .before .before .before .before .before .before .before .before .before .before .before .before .before .before .before .before .before .before .before .pre .0), kept-most _ _ _ _ _ _ (c .before .before .before .before .before .before .keep-name .ensures), kept-few _ _ _ _ _ _ (c .before .before .before .before .before .before .keep-name .ensures) (c .before .before .before .before .before .before .before .before .before .before .before .before .before .loop .inv .few), name-far (c .before .before .before .before .before .before .before .before .before .before .before .before .before .before .before .before .before .before .before .before .before .args .s .now) (c .before .before .before .before .before .before .before .before .before .before .before .before .before .loop .i) _ (c .before .before .before .before .before .before .before .before .before .before .before .before .name-key .ensures) _ _ (c .before .before .before .before .before .before .before .before .before .before .k .given .1) .0, name-far (c .before .before .before .before .before .before .before .before .before .before .before .before .before .before .before .before .before .before .before .before .before .args .s .now) (c .before .before .before .before .before .before .before .before .before .before .before .before .before .loop .i) _ (c .before .before .before .before .before .before .before .before .before .before .before .before .name-key .ensures) _ _ (c .before .before .before .before .before .before .before .before .before .before .k .given .1) .1, (c .before .before .before .before .before .before .before .before .before .before .before .before .before .loop .inv .forward), (c .before .before .before .before .before .before .before .before .before .before .before .before .before .before .before .before .before .if1 .left)), (omega (arith, (c .before .before .before .before .before .before .before .before .before .before .before .before .before .before .before .before .before .before .before .before .before .pre .1 .0), (c .before .before .before .before .before .before .before .before .before .before .before .before .before .loop .inv .places-kept .long), (kept-places _ _ _ _ _ _ (c .before .before .before .before .before .before .keep-name .ensures)) .long, kept-most _ _ _ _ _ _ (c .before .before .before .before .before .before .keep-name .ensures), kept-few _ _ _ _ _ _ (c .before .before .before .before .before .before .keep-name .ensures) (c .before .before .before .before .before .before .before .before .before .before .before .before .before .loop .inv .few), name-far (c .before .before .before .before .before .before .before .before .before .before .before .before .before .before .before .before .before .before .before .before .before .args .s .now) (c .before .before .before .before .before .before .before .before .before .before .before .before .before .loop .i) _ (c .before .before .before .before .before .before .before .before .before .before .before .before .name-key .ensures) _ _ (c .before .before .before .before .before .before .before .before .before .before .k .given .1) .0, name-far (c .before .before .before .before .before .before .before .before .before .before .before .before .before .before .before .before .before .before .before .before .before .args .s .now) (c .before .before .before .before .before .before .before .before .before .before .before .before .before .loop .i) _ (c .before .before .before .before .before .before .before .before .before .before .before .before .name-key .ensures) _ _ (c .before .before .before .before .before .before .before .before .before .before .k .given .1) .1, (c .before .before .before .before .before .before .before .before .before .before .before .before .before .loop .inv .forward), (c .before .before .before .before .before .before .before .before .before .before .before .before .before .before .before .before .before .if1 .left)), omega (arith, (c .before .before .before .before .before .before .before .before .before .before .before .before .before .before .before .before .before .before .before .before .before .pre .1 .1), (c .before .before .before .before .before .before .before .before .before .before .before .before .before .loop .inv .keys-kept .long), (kept-keys _ _ _ _ _ _ (c .before .before .before .before .before .before .keep-name .ensures)) .long, kept-most _ _ _ _ _ _ (c .before .before .before .before .before .before .keep-name .ensures), kept-few _ _ _ _ _ _ (c .before .before .before .before .before .before .keep-name .ensures) (c .before .before .before .before .before .before .before .before .before .before .before .before .before .loop .inv .few), name-far (c .before .before .before .before .before .before .before .before .before .before .before .before .before .before .before .before .before .before .before .before .before .args .s .now) (c .before .before .before .before .before .before .before .before .before .before .before .before .before .loop .i) _ (c .before .before .before .before .before .before .before .before .before .before .before .before .name-key .ensures) _ _ (c .before .before .before .before .before .before .before .before .before .before .k .given .1) .0, name-far (c .before .before .before .before .before .before .before .before .before .before .before .before .before .before .before .before .before .before .before .before .before .args .s .now) (c .before .before .before .before .before .before .before .before .before .before .before .before .before .loop .i) _ (c .before .before .before .before .before .before .before .before .before .before .before .before .name-key .ensures) _ _ (c .before .before .before .before .before .before .before .before .before .before .k .given .1) .1, (c .before .before .before .before .before .before .before .before .before .before .before .before .before .loop .inv .forward), (c .before .before .before .before .before .before .before .before .before .before .before .before .before .before .before .before .before .if1 .left))))
 
 object-enum-known-r : (t : ℕ) → object-lts.Need-enum-known-r (
   skip-blanks-reads.Asked,
   skip-blanks-reads.Learnt,
   peek-reads.Asked,
   peek-reads.Learnt,
-  name-reads.Asked,
-  name-reads.Learnt,
+  name-key-reads.Asked,
+  name-key-reads.Learnt,
   keep-name-reads.Asked,
   keep-name-reads.Learnt,
   value-below t,
@@ -767,8 +767,8 @@ object-enum-told-2 : (t : ℕ) → object-lts.Need-enum-told-2 (
   skip-blanks-reads.Learnt,
   peek-reads.Asked,
   peek-reads.Learnt,
-  name-reads.Asked,
-  name-reads.Learnt,
+  name-key-reads.Asked,
+  name-key-reads.Learnt,
   keep-name-reads.Asked,
   keep-name-reads.Learnt,
   value-below t,
@@ -785,8 +785,8 @@ object-same-length-3 : (t : ℕ) → object-lts.Need-same-length-3 (
   skip-blanks-reads.Learnt,
   peek-reads.Asked,
   peek-reads.Learnt,
-  name-reads.Asked,
-  name-reads.Learnt,
+  name-key-reads.Asked,
+  name-key-reads.Learnt,
   keep-name-reads.Asked,
   keep-name-reads.Learnt,
   value-below t,
@@ -803,8 +803,8 @@ object-same-length-4 : (t : ℕ) → object-lts.Need-same-length-4 (
   skip-blanks-reads.Learnt,
   peek-reads.Asked,
   peek-reads.Learnt,
-  name-reads.Asked,
-  name-reads.Learnt,
+  name-key-reads.Asked,
+  name-key-reads.Learnt,
   keep-name-reads.Asked,
   keep-name-reads.Learnt,
   value-below t,
@@ -821,8 +821,8 @@ object-returns-4 : (t : ℕ) → object-lts.Need-returns-4 (
   skip-blanks-reads.Learnt,
   peek-reads.Asked,
   peek-reads.Learnt,
-  name-reads.Asked,
-  name-reads.Learnt,
+  name-key-reads.Asked,
+  name-key-reads.Learnt,
   keep-name-reads.Asked,
   keep-name-reads.Learnt,
   value-below t,
@@ -832,15 +832,15 @@ object-returns-4 : (t : ℕ) → object-lts.Need-returns-4 (
   after-member-reads.Asked,
   after-member-reads.Learnt,
 ) (object-at t) object.Post object-Inv-loop object-μ-loop
-object-returns-4 t c = (object-told _ _ _ _ _ (c .before .before .before .before .before .before .before .before .before .before .before .before .before .before .before .before .before .before .before .before .before .before .before .before .if1 .left) (c .before .before .before .before .before .before .before .before .before .before .before .before .before .before .before .before .before .before .before .before .before .before .before .skip-blanks .ensures) (c .before .before .before .before .before .before .before .before .before .before .before .before .before .before .before .before .before .before .before .before .before .before .peek .ensures) _ (c .before .before .before .before .before .before .before .before .before .before .before .before .before .before .before .before .before .before .before .before .before .if2 .left) (object-stop ((c .before .before .before .before .before .before .before .before .before .before .before .before .before .before .before .before .before .before .before .before .before .before .before .before .before .before .before .before .args .depth) - 1) (c .before .before .before .before .before .before .before .before .before .before .before .before .before .before .before .before .before .before .before .before .before .before .before .before .before .before .before .before .args .s .now) (c .before .before .before .before .before .before .before .before .before .before .before .before .before .before .before .before .before .before .before .before .before .before .before .before .before .before .before .before .args .at) _ (c .before .before .before .before .before .before .before .before .before .before .before .before .before .before .before .before .before .before .before .before .before .before .before .before .before .before .before .before .args .used) _ _ (c .before .before .before .before .before .before .before .before .before .before .before .before .before .before .before .before .before .before .before .before .loop .places) (c .before .before .before .before .before .before .before .before .before .before .before .before .before .before .before .before .before .before .before .before .loop .keys) (c .before .before .before .before .before .before .before .before .before .before .before .before .before .before .before .before .before .before .before .before .loop .bad) (c .before .before .before .before .before .before .before .before .before .before .before .before .before .before .before .before .before .before .before .before .loop .n) (c .before .before .before .before .before .before .before .before .before .before .before .before .before .before .before .before .before .before .before .before .loop .i) (c .before .before .before .before .before .before .before .before .before .before .before .before .before .before .before .before .before .before .before .before .loop .inv) _ (c .before .before .before .before .before .before .before .before .before .before .before .before .before .before .before .before .before .before .before .name .ensures) _ _ (c .before .before .before .before .before .before .before .before .before .before .before .before .before .before .before .before .before .k .given .1) _ _ _ (c .before .before .before .before .before .before .before .before .before .before .before .before .before .keep-name .ensures) (λ h. omega (arith, (c .before .before .before .before .before .before .before .before .before .before .before .before .before .before .before .before .before .before .before .before .before .before .before .before .if1 .left), (c .before .before .before .before .before .before .before .before .before .before .before .before .before .before .before .before .before .before .before .before .loop .inv .forward), (c .before .before .before .before .before .before .before .before .before .before .before .before .before .before .before .before .before .before .before .before .before .before .before .before .before .before .before .before .pre .1 .0), (c .before .before .before .before .before .before .before .before .before .before .before .before .before .before .before .before .before .before .before .before .loop .inv .places-kept .long), name-inside _ _ _ _ (sym (c .before .before .before .before .before .before .before .before .before .before .before .before .before .before .before .before .before .before .before .name .ensures) ∙ (c .before .before .before .before .before .before .before .before .before .before .before .before .before .before .before .before .before .k .given .1)) .0)) (λ h. omega (arith, (c .before .before .before .before .before .before .before .before .before .before .before .before .before .before .before .before .before .before .before .before .before .before .before .before .if1 .left), (c .before .before .before .before .before .before .before .before .before .before .before .before .before .before .before .before .before .before .before .before .loop .inv .forward), (c .before .before .before .before .before .before .before .before .before .before .before .before .before .before .before .before .before .before .before .before .before .before .before .before .before .before .before .before .pre .1 .1), (c .before .before .before .before .before .before .before .before .before .before .before .before .before .before .before .before .before .before .before .before .loop .inv .keys-kept .long), name-inside _ _ _ _ (sym (c .before .before .before .before .before .before .before .before .before .before .before .before .before .before .before .before .before .before .before .name .ensures) ∙ (c .before .before .before .before .before .before .before .before .before .before .before .before .before .before .before .before .before .k .given .1)) .0)) _ (c .before .before .before .before .before .before .value .ensures .0) (c .enum-told2 .given .1)), (kept-then (c .before .before .before .before .before .before .before .before .before .before .before .before .before .before .before .before .before .before .before .before .loop .inv .places-kept) (kept-then (kept-places _ _ _ _ _ _ (c .before .before .before .before .before .before .before .before .before .before .before .before .before .keep-name .ensures)) (kept-less (omega arith) (c .before .before .before .before .before .before .value .ensures .1 .0))), kept-then (c .before .before .before .before .before .before .before .before .before .before .before .before .before .before .before .before .before .before .before .before .loop .inv .keys-kept) (kept-then (kept-keys _ _ _ _ _ _ (c .before .before .before .before .before .before .before .before .before .before .before .before .before .keep-name .ensures)) (kept-less (omega arith) (c .before .before .before .before .before .before .value .ensures .1 .1)))))
+object-returns-4 t c = (object-told _ _ _ _ _ (c .before .before .before .before .before .before .before .before .before .before .before .before .before .before .before .before .before .before .before .before .before .before .before .before .if1 .left) (c .before .before .before .before .before .before .before .before .before .before .before .before .before .before .before .before .before .before .before .before .before .before .before .skip-blanks .ensures) (c .before .before .before .before .before .before .before .before .before .before .before .before .before .before .before .before .before .before .before .before .before .before .peek .ensures) _ (c .before .before .before .before .before .before .before .before .before .before .before .before .before .before .before .before .before .before .before .before .before .if2 .left) (object-stop ((c .before .before .before .before .before .before .before .before .before .before .before .before .before .before .before .before .before .before .before .before .before .before .before .before .before .before .before .before .args .depth) - 1) (c .before .before .before .before .before .before .before .before .before .before .before .before .before .before .before .before .before .before .before .before .before .before .before .before .before .before .before .before .args .s .now) (c .before .before .before .before .before .before .before .before .before .before .before .before .before .before .before .before .before .before .before .before .before .before .before .before .before .before .before .before .args .at) _ (c .before .before .before .before .before .before .before .before .before .before .before .before .before .before .before .before .before .before .before .before .before .before .before .before .before .before .before .before .args .used) _ _ (c .before .before .before .before .before .before .before .before .before .before .before .before .before .before .before .before .before .before .before .before .loop .places) (c .before .before .before .before .before .before .before .before .before .before .before .before .before .before .before .before .before .before .before .before .loop .keys) (c .before .before .before .before .before .before .before .before .before .before .before .before .before .before .before .before .before .before .before .before .loop .bad) (c .before .before .before .before .before .before .before .before .before .before .before .before .before .before .before .before .before .before .before .before .loop .n) (c .before .before .before .before .before .before .before .before .before .before .before .before .before .before .before .before .before .before .before .before .loop .i) (c .before .before .before .before .before .before .before .before .before .before .before .before .before .before .before .before .before .before .before .before .loop .inv) _ (c .before .before .before .before .before .before .before .before .before .before .before .before .before .before .before .before .before .before .before .name-key .ensures) _ _ (c .before .before .before .before .before .before .before .before .before .before .before .before .before .before .before .before .before .k .given .1) _ _ _ (c .before .before .before .before .before .before .before .before .before .before .before .before .before .keep-name .ensures) (λ h. omega (arith, (c .before .before .before .before .before .before .before .before .before .before .before .before .before .before .before .before .before .before .before .before .before .before .before .before .if1 .left), (c .before .before .before .before .before .before .before .before .before .before .before .before .before .before .before .before .before .before .before .before .loop .inv .forward), (c .before .before .before .before .before .before .before .before .before .before .before .before .before .before .before .before .before .before .before .before .before .before .before .before .before .before .before .before .pre .1 .0), (c .before .before .before .before .before .before .before .before .before .before .before .before .before .before .before .before .before .before .before .before .loop .inv .places-kept .long), name-far (c .before .before .before .before .before .before .before .before .before .before .before .before .before .before .before .before .before .before .before .before .before .before .before .before .before .before .before .before .args .s .now) (c .before .before .before .before .before .before .before .before .before .before .before .before .before .before .before .before .before .before .before .before .loop .i) _ (c .before .before .before .before .before .before .before .before .before .before .before .before .before .before .before .before .before .before .before .name-key .ensures) _ _ (c .before .before .before .before .before .before .before .before .before .before .before .before .before .before .before .before .before .k .given .1) .0)) (λ h. omega (arith, (c .before .before .before .before .before .before .before .before .before .before .before .before .before .before .before .before .before .before .before .before .before .before .before .before .if1 .left), (c .before .before .before .before .before .before .before .before .before .before .before .before .before .before .before .before .before .before .before .before .loop .inv .forward), (c .before .before .before .before .before .before .before .before .before .before .before .before .before .before .before .before .before .before .before .before .before .before .before .before .before .before .before .before .pre .1 .1), (c .before .before .before .before .before .before .before .before .before .before .before .before .before .before .before .before .before .before .before .before .loop .inv .keys-kept .long), name-far (c .before .before .before .before .before .before .before .before .before .before .before .before .before .before .before .before .before .before .before .before .before .before .before .before .before .before .before .before .args .s .now) (c .before .before .before .before .before .before .before .before .before .before .before .before .before .before .before .before .before .before .before .before .loop .i) _ (c .before .before .before .before .before .before .before .before .before .before .before .before .before .before .before .before .before .before .before .name-key .ensures) _ _ (c .before .before .before .before .before .before .before .before .before .before .before .before .before .before .before .before .before .k .given .1) .0)) _ (c .before .before .before .before .before .before .value .ensures .0) (c .enum-told2 .given .1)), (kept-then (c .before .before .before .before .before .before .before .before .before .before .before .before .before .before .before .before .before .before .before .before .loop .inv .places-kept) (kept-then (kept-places _ _ _ _ _ _ (c .before .before .before .before .before .before .before .before .before .before .before .before .before .keep-name .ensures)) (kept-less (omega arith) (c .before .before .before .before .before .before .value .ensures .1 .0))), kept-then (c .before .before .before .before .before .before .before .before .before .before .before .before .before .before .before .before .before .before .before .before .loop .inv .keys-kept) (kept-then (kept-keys _ _ _ _ _ _ (c .before .before .before .before .before .before .before .before .before .before .before .before .before .keep-name .ensures)) (kept-less (omega arith) (c .before .before .before .before .before .before .value .ensures .1 .1)))))
 
 object-either-requires : (t : ℕ) → object-lts.Need-either-requires (
   skip-blanks-reads.Asked,
   skip-blanks-reads.Learnt,
   peek-reads.Asked,
   peek-reads.Learnt,
-  name-reads.Asked,
-  name-reads.Learnt,
+  name-key-reads.Asked,
+  name-key-reads.Learnt,
   keep-name-reads.Asked,
   keep-name-reads.Learnt,
   value-below t,
@@ -857,8 +857,8 @@ object-after-member-requires : (t : ℕ) → object-lts.Need-after-member-requir
   skip-blanks-reads.Learnt,
   peek-reads.Asked,
   peek-reads.Learnt,
-  name-reads.Asked,
-  name-reads.Learnt,
+  name-key-reads.Asked,
+  name-key-reads.Learnt,
   keep-name-reads.Asked,
   keep-name-reads.Learnt,
   value-below t,
@@ -875,8 +875,8 @@ object-enum-known-a : (t : ℕ) → object-lts.Need-enum-known-a (
   skip-blanks-reads.Learnt,
   peek-reads.Asked,
   peek-reads.Learnt,
-  name-reads.Asked,
-  name-reads.Learnt,
+  name-key-reads.Asked,
+  name-key-reads.Learnt,
   keep-name-reads.Asked,
   keep-name-reads.Learnt,
   value-below t,
@@ -893,8 +893,8 @@ object-loop-less : (t : ℕ) → object-lts.Need-loop-less (
   skip-blanks-reads.Learnt,
   peek-reads.Asked,
   peek-reads.Learnt,
-  name-reads.Asked,
-  name-reads.Learnt,
+  name-key-reads.Asked,
+  name-key-reads.Learnt,
   keep-name-reads.Asked,
   keep-name-reads.Learnt,
   value-below t,
@@ -904,15 +904,15 @@ object-loop-less : (t : ℕ) → object-lts.Need-loop-less (
   after-member-reads.Asked,
   after-member-reads.Learnt,
 ) (object-at t) object.Post object-Inv-loop object-μ-loop
-object-loop-less t c = let m = object-less ((c .before .before .before .before .before .before .before .before .before .before .before .before .before .before .before .before .before .before .before .before .before .before .before .before .before .before .before .before .before .before .before .before .before .before .args .depth) - 1) (c .before .before .before .before .before .before .before .before .before .before .before .before .before .before .before .before .before .before .before .before .before .before .before .before .before .before .before .before .before .before .before .before .before .before .args .s .now) (c .before .before .before .before .before .before .before .before .before .before .before .before .before .before .before .before .before .before .before .before .before .before .before .before .before .before .before .before .before .before .before .before .before .before .args .at) _ (c .before .before .before .before .before .before .before .before .before .before .before .before .before .before .before .before .before .before .before .before .before .before .before .before .before .before .before .before .before .before .before .before .before .before .args .used) _ _ (c .before .before .before .before .before .before .before .before .before .before .before .before .before .before .before .before .before .before .before .before .before .before .before .before .before .before .loop .places) (c .before .before .before .before .before .before .before .before .before .before .before .before .before .before .before .before .before .before .before .before .before .before .before .before .before .before .loop .keys) (c .before .before .before .before .before .before .before .before .before .before .before .before .before .before .before .before .before .before .before .before .before .before .before .before .before .before .loop .bad) (c .before .before .before .before .before .before .before .before .before .before .before .before .before .before .before .before .before .before .before .before .before .before .before .before .before .before .loop .n) (c .before .before .before .before .before .before .before .before .before .before .before .before .before .before .before .before .before .before .before .before .before .before .before .before .before .before .loop .i) (c .before .before .before .before .before .before .before .before .before .before .before .before .before .before .before .before .before .before .before .before .before .before .before .before .before .before .loop .inv) _ (c .before .before .before .before .before .before .before .before .before .before .before .before .before .before .before .before .before .before .before .before .before .before .before .before .before .name .ensures) _ _ (c .before .before .before .before .before .before .before .before .before .before .before .before .before .before .before .before .before .before .before .before .before .before .before .k .given .1) _ _ _ (c .before .before .before .before .before .before .before .before .before .before .before .before .before .before .before .before .before .before .before .keep-name .ensures) (λ h. omega (arith, (c .before .before .before .before .before .before .before .before .before .before .before .before .before .before .before .before .before .before .before .before .before .before .before .before .before .before .before .before .before .before .if1 .left), (c .before .before .before .before .before .before .before .before .before .before .before .before .before .before .before .before .before .before .before .before .before .before .before .before .before .before .loop .inv .forward), (c .before .before .before .before .before .before .before .before .before .before .before .before .before .before .before .before .before .before .before .before .before .before .before .before .before .before .before .before .before .before .before .before .before .before .pre .1 .0), (c .before .before .before .before .before .before .before .before .before .before .before .before .before .before .before .before .before .before .before .before .before .before .before .before .before .before .loop .inv .places-kept .long), name-inside _ _ _ _ (sym (c .before .before .before .before .before .before .before .before .before .before .before .before .before .before .before .before .before .before .before .before .before .before .before .before .before .name .ensures) ∙ (c .before .before .before .before .before .before .before .before .before .before .before .before .before .before .before .before .before .before .before .before .before .before .before .k .given .1)) .0)) (λ h. omega (arith, (c .before .before .before .before .before .before .before .before .before .before .before .before .before .before .before .before .before .before .before .before .before .before .before .before .before .before .before .before .before .before .if1 .left), (c .before .before .before .before .before .before .before .before .before .before .before .before .before .before .before .before .before .before .before .before .before .before .before .before .before .before .loop .inv .forward), (c .before .before .before .before .before .before .before .before .before .before .before .before .before .before .before .before .before .before .before .before .before .before .before .before .before .before .before .before .before .before .before .before .before .before .pre .1 .1), (c .before .before .before .before .before .before .before .before .before .before .before .before .before .before .before .before .before .before .before .before .before .before .before .before .before .before .loop .inv .keys-kept .long), name-inside _ _ _ _ (sym (c .before .before .before .before .before .before .before .before .before .before .before .before .before .before .before .before .before .before .before .before .before .before .before .before .before .name .ensures) ∙ (c .before .before .before .before .before .before .before .before .before .before .before .before .before .before .before .before .before .before .before .before .before .before .before .k .given .1)) .0)) _ (c .before .before .before .before .before .before .before .before .before .before .before .before .value .ensures .0) _ _ (c .before .before .before .before .before .before .r .given .1) _ (c .before .before .before .before .either .ensures) _ (c .before .before .before .after-member .ensures) _ (c .before .before .before .before .before .before .before .before .before .before .before .before .value .ensures .1 .0) _ (c .before .a .given .1) in omega (arith, m .0, m .1)
+object-loop-less t c = let m = object-less ((c .before .before .before .before .before .before .before .before .before .before .before .before .before .before .before .before .before .before .before .before .before .before .before .before .before .before .before .before .before .before .before .before .before .before .args .depth) - 1) (c .before .before .before .before .before .before .before .before .before .before .before .before .before .before .before .before .before .before .before .before .before .before .before .before .before .before .before .before .before .before .before .before .before .before .args .s .now) (c .before .before .before .before .before .before .before .before .before .before .before .before .before .before .before .before .before .before .before .before .before .before .before .before .before .before .before .before .before .before .before .before .before .before .args .at) _ (c .before .before .before .before .before .before .before .before .before .before .before .before .before .before .before .before .before .before .before .before .before .before .before .before .before .before .before .before .before .before .before .before .before .before .args .used) _ _ (c .before .before .before .before .before .before .before .before .before .before .before .before .before .before .before .before .before .before .before .before .before .before .before .before .before .before .loop .places) (c .before .before .before .before .before .before .before .before .before .before .before .before .before .before .before .before .before .before .before .before .before .before .before .before .before .before .loop .keys) (c .before .before .before .before .before .before .before .before .before .before .before .before .before .before .before .before .before .before .before .before .before .before .before .before .before .before .loop .bad) (c .before .before .before .before .before .before .before .before .before .before .before .before .before .before .before .before .before .before .before .before .before .before .before .before .before .before .loop .n) (c .before .before .before .before .before .before .before .before .before .before .before .before .before .before .before .before .before .before .before .before .before .before .before .before .before .before .loop .i) (c .before .before .before .before .before .before .before .before .before .before .before .before .before .before .before .before .before .before .before .before .before .before .before .before .before .before .loop .inv) _ (c .before .before .before .before .before .before .before .before .before .before .before .before .before .before .before .before .before .before .before .before .before .before .before .before .before .name-key .ensures) _ _ (c .before .before .before .before .before .before .before .before .before .before .before .before .before .before .before .before .before .before .before .before .before .before .before .k .given .1) _ _ _ (c .before .before .before .before .before .before .before .before .before .before .before .before .before .before .before .before .before .before .before .keep-name .ensures) (λ h. omega (arith, (c .before .before .before .before .before .before .before .before .before .before .before .before .before .before .before .before .before .before .before .before .before .before .before .before .before .before .before .before .before .before .if1 .left), (c .before .before .before .before .before .before .before .before .before .before .before .before .before .before .before .before .before .before .before .before .before .before .before .before .before .before .loop .inv .forward), (c .before .before .before .before .before .before .before .before .before .before .before .before .before .before .before .before .before .before .before .before .before .before .before .before .before .before .before .before .before .before .before .before .before .before .pre .1 .0), (c .before .before .before .before .before .before .before .before .before .before .before .before .before .before .before .before .before .before .before .before .before .before .before .before .before .before .loop .inv .places-kept .long), name-far (c .before .before .before .before .before .before .before .before .before .before .before .before .before .before .before .before .before .before .before .before .before .before .before .before .before .before .before .before .before .before .before .before .before .before .args .s .now) (c .before .before .before .before .before .before .before .before .before .before .before .before .before .before .before .before .before .before .before .before .before .before .before .before .before .before .loop .i) _ (c .before .before .before .before .before .before .before .before .before .before .before .before .before .before .before .before .before .before .before .before .before .before .before .before .before .name-key .ensures) _ _ (c .before .before .before .before .before .before .before .before .before .before .before .before .before .before .before .before .before .before .before .before .before .before .before .k .given .1) .0)) (λ h. omega (arith, (c .before .before .before .before .before .before .before .before .before .before .before .before .before .before .before .before .before .before .before .before .before .before .before .before .before .before .before .before .before .before .if1 .left), (c .before .before .before .before .before .before .before .before .before .before .before .before .before .before .before .before .before .before .before .before .before .before .before .before .before .before .loop .inv .forward), (c .before .before .before .before .before .before .before .before .before .before .before .before .before .before .before .before .before .before .before .before .before .before .before .before .before .before .before .before .before .before .before .before .before .before .pre .1 .1), (c .before .before .before .before .before .before .before .before .before .before .before .before .before .before .before .before .before .before .before .before .before .before .before .before .before .before .loop .inv .keys-kept .long), name-far (c .before .before .before .before .before .before .before .before .before .before .before .before .before .before .before .before .before .before .before .before .before .before .before .before .before .before .before .before .before .before .before .before .before .before .args .s .now) (c .before .before .before .before .before .before .before .before .before .before .before .before .before .before .before .before .before .before .before .before .before .before .before .before .before .before .loop .i) _ (c .before .before .before .before .before .before .before .before .before .before .before .before .before .before .before .before .before .before .before .before .before .before .before .before .before .name-key .ensures) _ _ (c .before .before .before .before .before .before .before .before .before .before .before .before .before .before .before .before .before .before .before .before .before .before .before .k .given .1) .0)) _ (c .before .before .before .before .before .before .before .before .before .before .before .before .value .ensures .0) _ _ (c .before .before .before .before .before .before .r .given .1) _ (c .before .before .before .before .either .ensures) _ (c .before .before .before .after-member .ensures) _ (c .before .before .before .before .before .before .before .before .before .before .before .before .value .ensures .1 .0) _ (c .before .a .given .1) in omega (arith, m .0, m .1)
 
 object-loop-again : (t : ℕ) → object-lts.Need-loop-again (
   skip-blanks-reads.Asked,
   skip-blanks-reads.Learnt,
   peek-reads.Asked,
   peek-reads.Learnt,
-  name-reads.Asked,
-  name-reads.Learnt,
+  name-key-reads.Asked,
+  name-key-reads.Learnt,
   keep-name-reads.Asked,
   keep-name-reads.Learnt,
   value-below t,
@@ -922,15 +922,15 @@ object-loop-again : (t : ℕ) → object-lts.Need-loop-again (
   after-member-reads.Asked,
   after-member-reads.Learnt,
 ) (object-at t) object.Post object-Inv-loop object-μ-loop
-object-loop-again t c = object-again ((c .before .before .before .before .before .before .before .before .before .before .before .before .before .before .before .before .before .before .before .before .before .before .before .before .before .before .before .before .before .before .before .before .before .before .args .depth) - 1) (c .before .before .before .before .before .before .before .before .before .before .before .before .before .before .before .before .before .before .before .before .before .before .before .before .before .before .before .before .before .before .before .before .before .before .args .s .now) (c .before .before .before .before .before .before .before .before .before .before .before .before .before .before .before .before .before .before .before .before .before .before .before .before .before .before .before .before .before .before .before .before .before .before .args .at) _ (c .before .before .before .before .before .before .before .before .before .before .before .before .before .before .before .before .before .before .before .before .before .before .before .before .before .before .before .before .before .before .before .before .before .before .args .used) _ _ (c .before .before .before .before .before .before .before .before .before .before .before .before .before .before .before .before .before .before .before .before .before .before .before .before .before .before .loop .places) (c .before .before .before .before .before .before .before .before .before .before .before .before .before .before .before .before .before .before .before .before .before .before .before .before .before .before .loop .keys) (c .before .before .before .before .before .before .before .before .before .before .before .before .before .before .before .before .before .before .before .before .before .before .before .before .before .before .loop .bad) (c .before .before .before .before .before .before .before .before .before .before .before .before .before .before .before .before .before .before .before .before .before .before .before .before .before .before .loop .n) (c .before .before .before .before .before .before .before .before .before .before .before .before .before .before .before .before .before .before .before .before .before .before .before .before .before .before .loop .i) (c .before .before .before .before .before .before .before .before .before .before .before .before .before .before .before .before .before .before .before .before .before .before .before .before .before .before .loop .inv) _ (c .before .before .before .before .before .before .before .before .before .before .before .before .before .before .before .before .before .before .before .before .before .before .before .before .before .name .ensures) _ _ (c .before .before .before .before .before .before .before .before .before .before .before .before .before .before .before .before .before .before .before .before .before .before .before .k .given .1) _ _ _ (c .before .before .before .before .before .before .before .before .before .before .before .before .before .before .before .before .before .before .before .keep-name .ensures) (λ h. omega (arith, (c .before .before .before .before .before .before .before .before .before .before .before .before .before .before .before .before .before .before .before .before .before .before .before .before .before .before .before .before .before .before .if1 .left), (c .before .before .before .before .before .before .before .before .before .before .before .before .before .before .before .before .before .before .before .before .before .before .before .before .before .before .loop .inv .forward), (c .before .before .before .before .before .before .before .before .before .before .before .before .before .before .before .before .before .before .before .before .before .before .before .before .before .before .before .before .before .before .before .before .before .before .pre .1 .0), (c .before .before .before .before .before .before .before .before .before .before .before .before .before .before .before .before .before .before .before .before .before .before .before .before .before .before .loop .inv .places-kept .long), name-inside _ _ _ _ (sym (c .before .before .before .before .before .before .before .before .before .before .before .before .before .before .before .before .before .before .before .before .before .before .before .before .before .name .ensures) ∙ (c .before .before .before .before .before .before .before .before .before .before .before .before .before .before .before .before .before .before .before .before .before .before .before .k .given .1)) .0)) (λ h. omega (arith, (c .before .before .before .before .before .before .before .before .before .before .before .before .before .before .before .before .before .before .before .before .before .before .before .before .before .before .before .before .before .before .if1 .left), (c .before .before .before .before .before .before .before .before .before .before .before .before .before .before .before .before .before .before .before .before .before .before .before .before .before .before .loop .inv .forward), (c .before .before .before .before .before .before .before .before .before .before .before .before .before .before .before .before .before .before .before .before .before .before .before .before .before .before .before .before .before .before .before .before .before .before .pre .1 .1), (c .before .before .before .before .before .before .before .before .before .before .before .before .before .before .before .before .before .before .before .before .before .before .before .before .before .before .loop .inv .keys-kept .long), name-inside _ _ _ _ (sym (c .before .before .before .before .before .before .before .before .before .before .before .before .before .before .before .before .before .before .before .before .before .before .before .before .before .name .ensures) ∙ (c .before .before .before .before .before .before .before .before .before .before .before .before .before .before .before .before .before .before .before .before .before .before .before .k .given .1)) .0)) _ (c .before .before .before .before .before .before .before .before .before .before .before .before .value .ensures .0) _ _ (c .before .before .before .before .before .before .r .given .1) _ (c .before .before .before .before .either .ensures) _ (c .before .before .before .after-member .ensures) _ (c .before .before .before .before .before .before .before .before .before .before .before .before .value .ensures .1 .0) _ (c .before .a .given .1) _ (c .before .before .before .before .before .before .before .before .before .before .before .before .value .ensures .1 .1)
+object-loop-again t c = object-again ((c .before .before .before .before .before .before .before .before .before .before .before .before .before .before .before .before .before .before .before .before .before .before .before .before .before .before .before .before .before .before .before .before .before .before .args .depth) - 1) (c .before .before .before .before .before .before .before .before .before .before .before .before .before .before .before .before .before .before .before .before .before .before .before .before .before .before .before .before .before .before .before .before .before .before .args .s .now) (c .before .before .before .before .before .before .before .before .before .before .before .before .before .before .before .before .before .before .before .before .before .before .before .before .before .before .before .before .before .before .before .before .before .before .args .at) _ (c .before .before .before .before .before .before .before .before .before .before .before .before .before .before .before .before .before .before .before .before .before .before .before .before .before .before .before .before .before .before .before .before .before .before .args .used) _ _ (c .before .before .before .before .before .before .before .before .before .before .before .before .before .before .before .before .before .before .before .before .before .before .before .before .before .before .loop .places) (c .before .before .before .before .before .before .before .before .before .before .before .before .before .before .before .before .before .before .before .before .before .before .before .before .before .before .loop .keys) (c .before .before .before .before .before .before .before .before .before .before .before .before .before .before .before .before .before .before .before .before .before .before .before .before .before .before .loop .bad) (c .before .before .before .before .before .before .before .before .before .before .before .before .before .before .before .before .before .before .before .before .before .before .before .before .before .before .loop .n) (c .before .before .before .before .before .before .before .before .before .before .before .before .before .before .before .before .before .before .before .before .before .before .before .before .before .before .loop .i) (c .before .before .before .before .before .before .before .before .before .before .before .before .before .before .before .before .before .before .before .before .before .before .before .before .before .before .loop .inv) _ (c .before .before .before .before .before .before .before .before .before .before .before .before .before .before .before .before .before .before .before .before .before .before .before .before .before .name-key .ensures) _ _ (c .before .before .before .before .before .before .before .before .before .before .before .before .before .before .before .before .before .before .before .before .before .before .before .k .given .1) _ _ _ (c .before .before .before .before .before .before .before .before .before .before .before .before .before .before .before .before .before .before .before .keep-name .ensures) (λ h. omega (arith, (c .before .before .before .before .before .before .before .before .before .before .before .before .before .before .before .before .before .before .before .before .before .before .before .before .before .before .before .before .before .before .if1 .left), (c .before .before .before .before .before .before .before .before .before .before .before .before .before .before .before .before .before .before .before .before .before .before .before .before .before .before .loop .inv .forward), (c .before .before .before .before .before .before .before .before .before .before .before .before .before .before .before .before .before .before .before .before .before .before .before .before .before .before .before .before .before .before .before .before .before .before .pre .1 .0), (c .before .before .before .before .before .before .before .before .before .before .before .before .before .before .before .before .before .before .before .before .before .before .before .before .before .before .loop .inv .places-kept .long), name-far (c .before .before .before .before .before .before .before .before .before .before .before .before .before .before .before .before .before .before .before .before .before .before .before .before .before .before .before .before .before .before .before .before .before .before .args .s .now) (c .before .before .before .before .before .before .before .before .before .before .before .before .before .before .before .before .before .before .before .before .before .before .before .before .before .before .loop .i) _ (c .before .before .before .before .before .before .before .before .before .before .before .before .before .before .before .before .before .before .before .before .before .before .before .before .before .name-key .ensures) _ _ (c .before .before .before .before .before .before .before .before .before .before .before .before .before .before .before .before .before .before .before .before .before .before .before .k .given .1) .0)) (λ h. omega (arith, (c .before .before .before .before .before .before .before .before .before .before .before .before .before .before .before .before .before .before .before .before .before .before .before .before .before .before .before .before .before .before .if1 .left), (c .before .before .before .before .before .before .before .before .before .before .before .before .before .before .before .before .before .before .before .before .before .before .before .before .before .before .loop .inv .forward), (c .before .before .before .before .before .before .before .before .before .before .before .before .before .before .before .before .before .before .before .before .before .before .before .before .before .before .before .before .before .before .before .before .before .before .pre .1 .1), (c .before .before .before .before .before .before .before .before .before .before .before .before .before .before .before .before .before .before .before .before .before .before .before .before .before .before .loop .inv .keys-kept .long), name-far (c .before .before .before .before .before .before .before .before .before .before .before .before .before .before .before .before .before .before .before .before .before .before .before .before .before .before .before .before .before .before .before .before .before .before .args .s .now) (c .before .before .before .before .before .before .before .before .before .before .before .before .before .before .before .before .before .before .before .before .before .before .before .before .before .before .loop .i) _ (c .before .before .before .before .before .before .before .before .before .before .before .before .before .before .before .before .before .before .before .before .before .before .before .before .before .name-key .ensures) _ _ (c .before .before .before .before .before .before .before .before .before .before .before .before .before .before .before .before .before .before .before .before .before .before .before .k .given .1) .0)) _ (c .before .before .before .before .before .before .before .before .before .before .before .before .value .ensures .0) _ _ (c .before .before .before .before .before .before .r .given .1) _ (c .before .before .before .before .either .ensures) _ (c .before .before .before .after-member .ensures) _ (c .before .before .before .before .before .before .before .before .before .before .before .before .value .ensures .1 .0) _ (c .before .a .given .1) _ (c .before .before .before .before .before .before .before .before .before .before .before .before .value .ensures .1 .1)
 
 object-enum-known-a-2 : (t : ℕ) → object-lts.Need-enum-known-a-2 (
   skip-blanks-reads.Asked,
   skip-blanks-reads.Learnt,
   peek-reads.Asked,
   peek-reads.Learnt,
-  name-reads.Asked,
-  name-reads.Learnt,
+  name-key-reads.Asked,
+  name-key-reads.Learnt,
   keep-name-reads.Asked,
   keep-name-reads.Learnt,
   value-below t,
@@ -947,8 +947,8 @@ object-same-length-5 : (t : ℕ) → object-lts.Need-same-length-5 (
   skip-blanks-reads.Learnt,
   peek-reads.Asked,
   peek-reads.Learnt,
-  name-reads.Asked,
-  name-reads.Learnt,
+  name-key-reads.Asked,
+  name-key-reads.Learnt,
   keep-name-reads.Asked,
   keep-name-reads.Learnt,
   value-below t,
@@ -965,8 +965,8 @@ object-same-length-6 : (t : ℕ) → object-lts.Need-same-length-6 (
   skip-blanks-reads.Learnt,
   peek-reads.Asked,
   peek-reads.Learnt,
-  name-reads.Asked,
-  name-reads.Learnt,
+  name-key-reads.Asked,
+  name-key-reads.Learnt,
   keep-name-reads.Asked,
   keep-name-reads.Learnt,
   value-below t,
@@ -983,8 +983,8 @@ object-returns-5 : (t : ℕ) → object-lts.Need-returns-5 (
   skip-blanks-reads.Learnt,
   peek-reads.Asked,
   peek-reads.Learnt,
-  name-reads.Asked,
-  name-reads.Learnt,
+  name-key-reads.Asked,
+  name-key-reads.Learnt,
   keep-name-reads.Asked,
   keep-name-reads.Learnt,
   value-below t,
@@ -994,15 +994,15 @@ object-returns-5 : (t : ℕ) → object-lts.Need-returns-5 (
   after-member-reads.Asked,
   after-member-reads.Learnt,
 ) (object-at t) object.Post object-Inv-loop object-μ-loop
-object-returns-5 t c = (object-told _ _ _ _ _ (c .before .before .before .before .before .before .before .before .before .before .before .before .before .before .before .before .before .before .before .before .before .before .before .before .before .before .before .before .before .before .if1 .left) (c .before .before .before .before .before .before .before .before .before .before .before .before .before .before .before .before .before .before .before .before .before .before .before .before .before .before .before .before .before .skip-blanks .ensures) (c .before .before .before .before .before .before .before .before .before .before .before .before .before .before .before .before .before .before .before .before .before .before .before .before .before .before .before .before .peek .ensures) _ (c .before .before .before .before .before .before .before .before .before .before .before .before .before .before .before .before .before .before .before .before .before .before .before .before .before .before .before .if2 .left) (object-close ((c .before .before .before .before .before .before .before .before .before .before .before .before .before .before .before .before .before .before .before .before .before .before .before .before .before .before .before .before .before .before .before .before .before .before .args .depth) - 1) (c .before .before .before .before .before .before .before .before .before .before .before .before .before .before .before .before .before .before .before .before .before .before .before .before .before .before .before .before .before .before .before .before .before .before .args .s .now) (c .before .before .before .before .before .before .before .before .before .before .before .before .before .before .before .before .before .before .before .before .before .before .before .before .before .before .before .before .before .before .before .before .before .before .args .at) _ (c .before .before .before .before .before .before .before .before .before .before .before .before .before .before .before .before .before .before .before .before .before .before .before .before .before .before .before .before .before .before .before .before .before .before .args .used) _ _ (c .before .before .before .before .before .before .before .before .before .before .before .before .before .before .before .before .before .before .before .before .before .before .before .before .before .before .loop .places) (c .before .before .before .before .before .before .before .before .before .before .before .before .before .before .before .before .before .before .before .before .before .before .before .before .before .before .loop .keys) (c .before .before .before .before .before .before .before .before .before .before .before .before .before .before .before .before .before .before .before .before .before .before .before .before .before .before .loop .bad) (c .before .before .before .before .before .before .before .before .before .before .before .before .before .before .before .before .before .before .before .before .before .before .before .before .before .before .loop .n) (c .before .before .before .before .before .before .before .before .before .before .before .before .before .before .before .before .before .before .before .before .before .before .before .before .before .before .loop .i) (c .before .before .before .before .before .before .before .before .before .before .before .before .before .before .before .before .before .before .before .before .before .before .before .before .before .before .loop .inv) _ (c .before .before .before .before .before .before .before .before .before .before .before .before .before .before .before .before .before .before .before .before .before .before .before .before .before .name .ensures) _ _ (c .before .before .before .before .before .before .before .before .before .before .before .before .before .before .before .before .before .before .before .before .before .before .before .k .given .1) _ _ _ (c .before .before .before .before .before .before .before .before .before .before .before .before .before .before .before .before .before .before .before .keep-name .ensures) (λ h. omega (arith, (c .before .before .before .before .before .before .before .before .before .before .before .before .before .before .before .before .before .before .before .before .before .before .before .before .before .before .before .before .before .before .if1 .left), (c .before .before .before .before .before .before .before .before .before .before .before .before .before .before .before .before .before .before .before .before .before .before .before .before .before .before .loop .inv .forward), (c .before .before .before .before .before .before .before .before .before .before .before .before .before .before .before .before .before .before .before .before .before .before .before .before .before .before .before .before .before .before .before .before .before .before .pre .1 .0), (c .before .before .before .before .before .before .before .before .before .before .before .before .before .before .before .before .before .before .before .before .before .before .before .before .before .before .loop .inv .places-kept .long), name-inside _ _ _ _ (sym (c .before .before .before .before .before .before .before .before .before .before .before .before .before .before .before .before .before .before .before .before .before .before .before .before .before .name .ensures) ∙ (c .before .before .before .before .before .before .before .before .before .before .before .before .before .before .before .before .before .before .before .before .before .before .before .k .given .1)) .0)) (λ h. omega (arith, (c .before .before .before .before .before .before .before .before .before .before .before .before .before .before .before .before .before .before .before .before .before .before .before .before .before .before .before .before .before .before .if1 .left), (c .before .before .before .before .before .before .before .before .before .before .before .before .before .before .before .before .before .before .before .before .before .before .before .before .before .before .loop .inv .forward), (c .before .before .before .before .before .before .before .before .before .before .before .before .before .before .before .before .before .before .before .before .before .before .before .before .before .before .before .before .before .before .before .before .before .before .pre .1 .1), (c .before .before .before .before .before .before .before .before .before .before .before .before .before .before .before .before .before .before .before .before .before .before .before .before .before .before .loop .inv .keys-kept .long), name-inside _ _ _ _ (sym (c .before .before .before .before .before .before .before .before .before .before .before .before .before .before .before .before .before .before .before .before .before .before .before .before .before .name .ensures) ∙ (c .before .before .before .before .before .before .before .before .before .before .before .before .before .before .before .before .before .before .before .before .before .before .before .k .given .1)) .0)) _ (c .before .before .before .before .before .before .before .before .before .before .before .before .value .ensures .0) _ _ (c .before .before .before .before .before .before .r .given .1) _ (c .before .before .before .before .either .ensures) _ (c .before .before .before .after-member .ensures) _ (c .before .before .before .before .before .before .before .before .before .before .before .before .value .ensures .1 .0) _ (c .before .a2 .given .1)), (kept-then (c .before .before .before .before .before .before .before .before .before .before .before .before .before .before .before .before .before .before .before .before .before .before .before .before .before .before .loop .inv .places-kept) (kept-then (kept-places _ _ _ _ _ _ (c .before .before .before .before .before .before .before .before .before .before .before .before .before .before .before .before .before .before .before .keep-name .ensures)) (kept-less (omega arith) (c .before .before .before .before .before .before .before .before .before .before .before .before .value .ensures .1 .0))), kept-then (c .before .before .before .before .before .before .before .before .before .before .before .before .before .before .before .before .before .before .before .before .before .before .before .before .before .before .loop .inv .keys-kept) (kept-then (kept-keys _ _ _ _ _ _ (c .before .before .before .before .before .before .before .before .before .before .before .before .before .before .before .before .before .before .before .keep-name .ensures)) (kept-less (omega arith) (c .before .before .before .before .before .before .before .before .before .before .before .before .value .ensures .1 .1)))))
+object-returns-5 t c = (object-told _ _ _ _ _ (c .before .before .before .before .before .before .before .before .before .before .before .before .before .before .before .before .before .before .before .before .before .before .before .before .before .before .before .before .before .before .if1 .left) (c .before .before .before .before .before .before .before .before .before .before .before .before .before .before .before .before .before .before .before .before .before .before .before .before .before .before .before .before .before .skip-blanks .ensures) (c .before .before .before .before .before .before .before .before .before .before .before .before .before .before .before .before .before .before .before .before .before .before .before .before .before .before .before .before .peek .ensures) _ (c .before .before .before .before .before .before .before .before .before .before .before .before .before .before .before .before .before .before .before .before .before .before .before .before .before .before .before .if2 .left) (object-close ((c .before .before .before .before .before .before .before .before .before .before .before .before .before .before .before .before .before .before .before .before .before .before .before .before .before .before .before .before .before .before .before .before .before .before .args .depth) - 1) (c .before .before .before .before .before .before .before .before .before .before .before .before .before .before .before .before .before .before .before .before .before .before .before .before .before .before .before .before .before .before .before .before .before .before .args .s .now) (c .before .before .before .before .before .before .before .before .before .before .before .before .before .before .before .before .before .before .before .before .before .before .before .before .before .before .before .before .before .before .before .before .before .before .args .at) _ (c .before .before .before .before .before .before .before .before .before .before .before .before .before .before .before .before .before .before .before .before .before .before .before .before .before .before .before .before .before .before .before .before .before .before .args .used) _ _ (c .before .before .before .before .before .before .before .before .before .before .before .before .before .before .before .before .before .before .before .before .before .before .before .before .before .before .loop .places) (c .before .before .before .before .before .before .before .before .before .before .before .before .before .before .before .before .before .before .before .before .before .before .before .before .before .before .loop .keys) (c .before .before .before .before .before .before .before .before .before .before .before .before .before .before .before .before .before .before .before .before .before .before .before .before .before .before .loop .bad) (c .before .before .before .before .before .before .before .before .before .before .before .before .before .before .before .before .before .before .before .before .before .before .before .before .before .before .loop .n) (c .before .before .before .before .before .before .before .before .before .before .before .before .before .before .before .before .before .before .before .before .before .before .before .before .before .before .loop .i) (c .before .before .before .before .before .before .before .before .before .before .before .before .before .before .before .before .before .before .before .before .before .before .before .before .before .before .loop .inv) _ (c .before .before .before .before .before .before .before .before .before .before .before .before .before .before .before .before .before .before .before .before .before .before .before .before .before .name-key .ensures) _ _ (c .before .before .before .before .before .before .before .before .before .before .before .before .before .before .before .before .before .before .before .before .before .before .before .k .given .1) _ _ _ (c .before .before .before .before .before .before .before .before .before .before .before .before .before .before .before .before .before .before .before .keep-name .ensures) (λ h. omega (arith, (c .before .before .before .before .before .before .before .before .before .before .before .before .before .before .before .before .before .before .before .before .before .before .before .before .before .before .before .before .before .before .if1 .left), (c .before .before .before .before .before .before .before .before .before .before .before .before .before .before .before .before .before .before .before .before .before .before .before .before .before .before .loop .inv .forward), (c .before .before .before .before .before .before .before .before .before .before .before .before .before .before .before .before .before .before .before .before .before .before .before .before .before .before .before .before .before .before .before .before .before .before .pre .1 .0), (c .before .before .before .before .before .before .before .before .before .before .before .before .before .before .before .before .before .before .before .before .before .before .before .before .before .before .loop .inv .places-kept .long), name-far (c .before .before .before .before .before .before .before .before .before .before .before .before .before .before .before .before .before .before .before .before .before .before .before .before .before .before .before .before .before .before .before .before .before .before .args .s .now) (c .before .before .before .before .before .before .before .before .before .before .before .before .before .before .before .before .before .before .before .before .before .before .before .before .before .before .loop .i) _ (c .before .before .before .before .before .before .before .before .before .before .before .before .before .before .before .before .before .before .before .before .before .before .before .before .before .name-key .ensures) _ _ (c .before .before .before .before .before .before .before .before .before .before .before .before .before .before .before .before .before .before .before .before .before .before .before .k .given .1) .0)) (λ h. omega (arith, (c .before .before .before .before .before .before .before .before .before .before .before .before .before .before .before .before .before .before .before .before .before .before .before .before .before .before .before .before .before .before .if1 .left), (c .before .before .before .before .before .before .before .before .before .before .before .before .before .before .before .before .before .before .before .before .before .before .before .before .before .before .loop .inv .forward), (c .before .before .before .before .before .before .before .before .before .before .before .before .before .before .before .before .before .before .before .before .before .before .before .before .before .before .before .before .before .before .before .before .before .before .pre .1 .1), (c .before .before .before .before .before .before .before .before .before .before .before .before .before .before .before .before .before .before .before .before .before .before .before .before .before .before .loop .inv .keys-kept .long), name-far (c .before .before .before .before .before .before .before .before .before .before .before .before .before .before .before .before .before .before .before .before .before .before .before .before .before .before .before .before .before .before .before .before .before .before .args .s .now) (c .before .before .before .before .before .before .before .before .before .before .before .before .before .before .before .before .before .before .before .before .before .before .before .before .before .before .loop .i) _ (c .before .before .before .before .before .before .before .before .before .before .before .before .before .before .before .before .before .before .before .before .before .before .before .before .before .name-key .ensures) _ _ (c .before .before .before .before .before .before .before .before .before .before .before .before .before .before .before .before .before .before .before .before .before .before .before .k .given .1) .0)) _ (c .before .before .before .before .before .before .before .before .before .before .before .before .value .ensures .0) _ _ (c .before .before .before .before .before .before .r .given .1) _ (c .before .before .before .before .either .ensures) _ (c .before .before .before .after-member .ensures) _ (c .before .before .before .before .before .before .before .before .before .before .before .before .value .ensures .1 .0) _ (c .before .a2 .given .1)), (kept-then (c .before .before .before .before .before .before .before .before .before .before .before .before .before .before .before .before .before .before .before .before .before .before .before .before .before .before .loop .inv .places-kept) (kept-then (kept-places _ _ _ _ _ _ (c .before .before .before .before .before .before .before .before .before .before .before .before .before .before .before .before .before .before .before .keep-name .ensures)) (kept-less (omega arith) (c .before .before .before .before .before .before .before .before .before .before .before .before .value .ensures .1 .0))), kept-then (c .before .before .before .before .before .before .before .before .before .before .before .before .before .before .before .before .before .before .before .before .before .before .before .before .before .before .loop .inv .keys-kept) (kept-then (kept-keys _ _ _ _ _ _ (c .before .before .before .before .before .before .before .before .before .before .before .before .before .before .before .before .before .before .before .keep-name .ensures)) (kept-less (omega arith) (c .before .before .before .before .before .before .before .before .before .before .before .before .value .ensures .1 .1)))))
 
 object-enum-told-3 : (t : ℕ) → object-lts.Need-enum-told-3 (
   skip-blanks-reads.Asked,
   skip-blanks-reads.Learnt,
   peek-reads.Asked,
   peek-reads.Learnt,
-  name-reads.Asked,
-  name-reads.Learnt,
+  name-key-reads.Asked,
+  name-key-reads.Learnt,
   keep-name-reads.Asked,
   keep-name-reads.Learnt,
   value-below t,
@@ -1019,8 +1019,8 @@ object-same-length-7 : (t : ℕ) → object-lts.Need-same-length-7 (
   skip-blanks-reads.Learnt,
   peek-reads.Asked,
   peek-reads.Learnt,
-  name-reads.Asked,
-  name-reads.Learnt,
+  name-key-reads.Asked,
+  name-key-reads.Learnt,
   keep-name-reads.Asked,
   keep-name-reads.Learnt,
   value-below t,
@@ -1037,8 +1037,8 @@ object-same-length-8 : (t : ℕ) → object-lts.Need-same-length-8 (
   skip-blanks-reads.Learnt,
   peek-reads.Asked,
   peek-reads.Learnt,
-  name-reads.Asked,
-  name-reads.Learnt,
+  name-key-reads.Asked,
+  name-key-reads.Learnt,
   keep-name-reads.Asked,
   keep-name-reads.Learnt,
   value-below t,
@@ -1055,8 +1055,8 @@ object-returns-6 : (t : ℕ) → object-lts.Need-returns-6 (
   skip-blanks-reads.Learnt,
   peek-reads.Asked,
   peek-reads.Learnt,
-  name-reads.Asked,
-  name-reads.Learnt,
+  name-key-reads.Asked,
+  name-key-reads.Learnt,
   keep-name-reads.Asked,
   keep-name-reads.Learnt,
   value-below t,
@@ -1066,7 +1066,7 @@ object-returns-6 : (t : ℕ) → object-lts.Need-returns-6 (
   after-member-reads.Asked,
   after-member-reads.Learnt,
 ) (object-at t) object.Post object-Inv-loop object-μ-loop
-object-returns-6 t c = (object-told _ _ _ _ _ (c .before .before .before .before .before .before .before .before .before .before .before .before .before .before .before .before .before .before .before .before .before .before .before .before .before .before .before .before .before .if1 .left) (c .before .before .before .before .before .before .before .before .before .before .before .before .before .before .before .before .before .before .before .before .before .before .before .before .before .before .before .before .skip-blanks .ensures) (c .before .before .before .before .before .before .before .before .before .before .before .before .before .before .before .before .before .before .before .before .before .before .before .before .before .before .before .peek .ensures) _ (c .before .before .before .before .before .before .before .before .before .before .before .before .before .before .before .before .before .before .before .before .before .before .before .before .before .before .if2 .left) (object-bad ((c .before .before .before .before .before .before .before .before .before .before .before .before .before .before .before .before .before .before .before .before .before .before .before .before .before .before .before .before .before .before .before .before .before .args .depth) - 1) (c .before .before .before .before .before .before .before .before .before .before .before .before .before .before .before .before .before .before .before .before .before .before .before .before .before .before .before .before .before .before .before .before .before .args .s .now) (c .before .before .before .before .before .before .before .before .before .before .before .before .before .before .before .before .before .before .before .before .before .before .before .before .before .before .before .before .before .before .before .before .before .args .at) _ (c .before .before .before .before .before .before .before .before .before .before .before .before .before .before .before .before .before .before .before .before .before .before .before .before .before .before .before .before .before .before .before .before .before .args .used) _ _ (c .before .before .before .before .before .before .before .before .before .before .before .before .before .before .before .before .before .before .before .before .before .before .before .before .before .loop .places) (c .before .before .before .before .before .before .before .before .before .before .before .before .before .before .before .before .before .before .before .before .before .before .before .before .before .loop .keys) (c .before .before .before .before .before .before .before .before .before .before .before .before .before .before .before .before .before .before .before .before .before .before .before .before .before .loop .bad) (c .before .before .before .before .before .before .before .before .before .before .before .before .before .before .before .before .before .before .before .before .before .before .before .before .before .loop .n) (c .before .before .before .before .before .before .before .before .before .before .before .before .before .before .before .before .before .before .before .before .before .before .before .before .before .loop .i) (c .before .before .before .before .before .before .before .before .before .before .before .before .before .before .before .before .before .before .before .before .before .before .before .before .before .loop .inv) _ (c .before .before .before .before .before .before .before .before .before .before .before .before .before .before .before .before .before .before .before .before .before .before .before .before .name .ensures) _ _ (c .before .before .before .before .before .before .before .before .before .before .before .before .before .before .before .before .before .before .before .before .before .before .k .given .1) _ _ _ (c .before .before .before .before .before .before .before .before .before .before .before .before .before .before .before .before .before .before .keep-name .ensures) (λ h. omega (arith, (c .before .before .before .before .before .before .before .before .before .before .before .before .before .before .before .before .before .before .before .before .before .before .before .before .before .before .before .before .before .if1 .left), (c .before .before .before .before .before .before .before .before .before .before .before .before .before .before .before .before .before .before .before .before .before .before .before .before .before .loop .inv .forward), (c .before .before .before .before .before .before .before .before .before .before .before .before .before .before .before .before .before .before .before .before .before .before .before .before .before .before .before .before .before .before .before .before .before .pre .1 .0), (c .before .before .before .before .before .before .before .before .before .before .before .before .before .before .before .before .before .before .before .before .before .before .before .before .before .loop .inv .places-kept .long), name-inside _ _ _ _ (sym (c .before .before .before .before .before .before .before .before .before .before .before .before .before .before .before .before .before .before .before .before .before .before .before .before .name .ensures) ∙ (c .before .before .before .before .before .before .before .before .before .before .before .before .before .before .before .before .before .before .before .before .before .before .k .given .1)) .0)) (λ h. omega (arith, (c .before .before .before .before .before .before .before .before .before .before .before .before .before .before .before .before .before .before .before .before .before .before .before .before .before .before .before .before .before .if1 .left), (c .before .before .before .before .before .before .before .before .before .before .before .before .before .before .before .before .before .before .before .before .before .before .before .before .before .loop .inv .forward), (c .before .before .before .before .before .before .before .before .before .before .before .before .before .before .before .before .before .before .before .before .before .before .before .before .before .before .before .before .before .before .before .before .before .pre .1 .1), (c .before .before .before .before .before .before .before .before .before .before .before .before .before .before .before .before .before .before .before .before .before .before .before .before .before .loop .inv .keys-kept .long), name-inside _ _ _ _ (sym (c .before .before .before .before .before .before .before .before .before .before .before .before .before .before .before .before .before .before .before .before .before .before .before .before .name .ensures) ∙ (c .before .before .before .before .before .before .before .before .before .before .before .before .before .before .before .before .before .before .before .before .before .before .k .given .1)) .0)) _ (c .before .before .before .before .before .before .before .before .before .before .before .value .ensures .0) _ _ (c .before .before .before .before .before .r .given .1) _ (c .before .before .before .either .ensures) _ (c .before .before .after-member .ensures) (c .enum-told3 .given .1)), (kept-then (c .before .before .before .before .before .before .before .before .before .before .before .before .before .before .before .before .before .before .before .before .before .before .before .before .before .loop .inv .places-kept) (kept-then (kept-places _ _ _ _ _ _ (c .before .before .before .before .before .before .before .before .before .before .before .before .before .before .before .before .before .before .keep-name .ensures)) (kept-less (omega arith) (c .before .before .before .before .before .before .before .before .before .before .before .value .ensures .1 .0))), kept-then (c .before .before .before .before .before .before .before .before .before .before .before .before .before .before .before .before .before .before .before .before .before .before .before .before .before .loop .inv .keys-kept) (kept-then (kept-keys _ _ _ _ _ _ (c .before .before .before .before .before .before .before .before .before .before .before .before .before .before .before .before .before .before .keep-name .ensures)) (kept-less (omega arith) (c .before .before .before .before .before .before .before .before .before .before .before .value .ensures .1 .1)))))
+object-returns-6 t c = (object-told _ _ _ _ _ (c .before .before .before .before .before .before .before .before .before .before .before .before .before .before .before .before .before .before .before .before .before .before .before .before .before .before .before .before .before .if1 .left) (c .before .before .before .before .before .before .before .before .before .before .before .before .before .before .before .before .before .before .before .before .before .before .before .before .before .before .before .before .skip-blanks .ensures) (c .before .before .before .before .before .before .before .before .before .before .before .before .before .before .before .before .before .before .before .before .before .before .before .before .before .before .before .peek .ensures) _ (c .before .before .before .before .before .before .before .before .before .before .before .before .before .before .before .before .before .before .before .before .before .before .before .before .before .before .if2 .left) (object-bad ((c .before .before .before .before .before .before .before .before .before .before .before .before .before .before .before .before .before .before .before .before .before .before .before .before .before .before .before .before .before .before .before .before .before .args .depth) - 1) (c .before .before .before .before .before .before .before .before .before .before .before .before .before .before .before .before .before .before .before .before .before .before .before .before .before .before .before .before .before .before .before .before .before .args .s .now) (c .before .before .before .before .before .before .before .before .before .before .before .before .before .before .before .before .before .before .before .before .before .before .before .before .before .before .before .before .before .before .before .before .before .args .at) _ (c .before .before .before .before .before .before .before .before .before .before .before .before .before .before .before .before .before .before .before .before .before .before .before .before .before .before .before .before .before .before .before .before .before .args .used) _ _ (c .before .before .before .before .before .before .before .before .before .before .before .before .before .before .before .before .before .before .before .before .before .before .before .before .before .loop .places) (c .before .before .before .before .before .before .before .before .before .before .before .before .before .before .before .before .before .before .before .before .before .before .before .before .before .loop .keys) (c .before .before .before .before .before .before .before .before .before .before .before .before .before .before .before .before .before .before .before .before .before .before .before .before .before .loop .bad) (c .before .before .before .before .before .before .before .before .before .before .before .before .before .before .before .before .before .before .before .before .before .before .before .before .before .loop .n) (c .before .before .before .before .before .before .before .before .before .before .before .before .before .before .before .before .before .before .before .before .before .before .before .before .before .loop .i) (c .before .before .before .before .before .before .before .before .before .before .before .before .before .before .before .before .before .before .before .before .before .before .before .before .before .loop .inv) _ (c .before .before .before .before .before .before .before .before .before .before .before .before .before .before .before .before .before .before .before .before .before .before .before .before .name-key .ensures) _ _ (c .before .before .before .before .before .before .before .before .before .before .before .before .before .before .before .before .before .before .before .before .before .before .k .given .1) _ _ _ (c .before .before .before .before .before .before .before .before .before .before .before .before .before .before .before .before .before .before .keep-name .ensures) (λ h. omega (arith, (c .before .before .before .before .before .before .before .before .before .before .before .before .before .before .before .before .before .before .before .before .before .before .before .before .before .before .before .before .before .if1 .left), (c .before .before .before .before .before .before .before .before .before .before .before .before .before .before .before .before .before .before .before .before .before .before .before .before .before .loop .inv .forward), (c .before .before .before .before .before .before .before .before .before .before .before .before .before .before .before .before .before .before .before .before .before .before .before .before .before .before .before .before .before .before .before .before .before .pre .1 .0), (c .before .before .before .before .before .before .before .before .before .before .before .before .before .before .before .before .before .before .before .before .before .before .before .before .before .loop .inv .places-kept .long), name-far (c .before .before .before .before .before .before .before .before .before .before .before .before .before .before .before .before .before .before .before .before .before .before .before .before .before .before .before .before .before .before .before .before .before .args .s .now) (c .before .before .before .before .before .before .before .before .before .before .before .before .before .before .before .before .before .before .before .before .before .before .before .before .before .loop .i) _ (c .before .before .before .before .before .before .before .before .before .before .before .before .before .before .before .before .before .before .before .before .before .before .before .before .name-key .ensures) _ _ (c .before .before .before .before .before .before .before .before .before .before .before .before .before .before .before .before .before .before .before .before .before .before .k .given .1) .0)) (λ h. omega (arith, (c .before .before .before .before .before .before .before .before .before .before .before .before .before .before .before .before .before .before .before .before .before .before .before .before .before .before .before .before .before .if1 .left), (c .before .before .before .before .before .before .before .before .before .before .before .before .before .before .before .before .before .before .before .before .before .before .before .before .before .loop .inv .forward), (c .before .before .before .before .before .before .before .before .before .before .before .before .before .before .before .before .before .before .before .before .before .before .before .before .before .before .before .before .before .before .before .before .before .pre .1 .1), (c .before .before .before .before .before .before .before .before .before .before .before .before .before .before .before .before .before .before .before .before .before .before .before .before .before .loop .inv .keys-kept .long), name-far (c .before .before .before .before .before .before .before .before .before .before .before .before .before .before .before .before .before .before .before .before .before .before .before .before .before .before .before .before .before .before .before .before .before .args .s .now) (c .before .before .before .before .before .before .before .before .before .before .before .before .before .before .before .before .before .before .before .before .before .before .before .before .before .loop .i) _ (c .before .before .before .before .before .before .before .before .before .before .before .before .before .before .before .before .before .before .before .before .before .before .before .before .name-key .ensures) _ _ (c .before .before .before .before .before .before .before .before .before .before .before .before .before .before .before .before .before .before .before .before .before .before .k .given .1) .0)) _ (c .before .before .before .before .before .before .before .before .before .before .before .value .ensures .0) _ _ (c .before .before .before .before .before .r .given .1) _ (c .before .before .before .either .ensures) _ (c .before .before .after-member .ensures) (c .enum-told3 .given .1)), (kept-then (c .before .before .before .before .before .before .before .before .before .before .before .before .before .before .before .before .before .before .before .before .before .before .before .before .before .loop .inv .places-kept) (kept-then (kept-places _ _ _ _ _ _ (c .before .before .before .before .before .before .before .before .before .before .before .before .before .before .before .before .before .before .keep-name .ensures)) (kept-less (omega arith) (c .before .before .before .before .before .before .before .before .before .before .before .value .ensures .1 .0))), kept-then (c .before .before .before .before .before .before .before .before .before .before .before .before .before .before .before .before .before .before .before .before .before .before .before .before .before .loop .inv .keys-kept) (kept-then (kept-keys _ _ _ _ _ _ (c .before .before .before .before .before .before .before .before .before .before .before .before .before .before .before .before .before .before .keep-name .ensures)) (kept-less (omega arith) (c .before .before .before .before .before .before .before .before .before .before .before .value .ensures .1 .1)))))
 
 value-peek-requires : (t : ℕ) → value-lts.Need-peek-requires (
   peek-reads.Asked,
@@ -1312,8 +1312,8 @@ pub +array+object+value-spec : {M : Type 1} → statement M
       skip-blanks-reads.Learnt,
       peek-reads.Asked,
       peek-reads.Learnt,
-      name-reads.Asked,
-      name-reads.Learnt,
+      name-key-reads.Asked,
+      name-key-reads.Learnt,
       keep-name-reads.Asked,
       keep-name-reads.Learnt,
       value-below t,
@@ -1333,7 +1333,7 @@ pub +array+object+value-spec : {M : Type 1} → statement M
     (object-add-t25 t)
     (object-returns-2 t)
     (object-loop-holds t)
-    (object-name-requires t)
+    (object-name-key-requires t)
     (object-enum-known-k t)
     (object-enum-told t)
     (object-same-length t)

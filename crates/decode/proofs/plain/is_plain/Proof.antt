@@ -1,0 +1,33 @@
+use borrow.Author.Needs.{needs}
+use native.Mathlib.Omega.{arith}
+use lib.ListN.{length, getD, drop}
+use Prim.Native.Nat.{ℕ, _≤_, _<_, _-_, _+_, _*_}
+use mathlib.Core.Path.{_≡_, refl, sym, ap, _∙_}
+use mathlib.Core.List.{List, [], _∷_}
+use borrow.Author.Tests.{eq-eqb, ne-eqb, le-leb, lt-leb, lt-ltb}
+use Rattle.decode.specs.Decode.{decodedFrom}
+use Rattle.decode.specs.Same.{same, keyOf}
+use Rattle.decode.specs.Plain.{plain, PlainRun}
+use Rattle.decode.proofs.plain.is_plain.Statement.{statement}
+use Rattle.decode.proofs.plain.is_plain.Tie as tie
+use Rattle.decode.proofs.plain.is_plain.Reads as reads
+use Rattle.decode.proofs.plain.is_plain.Lts as lts
+
+returns : tie.Need-returns
+unfolding plain
+returns c = rw (lt-leb _ _ (c .if1 .taken))
+
+returns-2 : tie.Need-returns-2
+unfolding plain
+returns-2 c = rw (le-leb _ _ (c .before .if1 .left), eq-eqb _ _ (c .if2 .taken))
+
+returns-3 : tie.Need-returns-3
+unfolding plain
+returns-3 c = rw (le-leb _ _ (c .before .before .if1 .left), ne-eqb _ _ (c .before .if2 .left), eq-eqb _ _ (c .if3 .taken))
+
+returns-4 : tie.Need-returns-4
+unfolding plain
+returns-4 c = rw (le-leb _ _ (c .before .before .if1 .left), ne-eqb _ _ (c .before .if2 .left), ne-eqb _ _ (c .if3 .left))
+
+pub is-plain-spec : {M : Type 1} → statement M
+is-plain-spec = tie.close (tie.spec returns returns-2 returns-3 returns-4)

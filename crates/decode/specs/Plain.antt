@@ -1,0 +1,29 @@
+-- For the code: bytes of a string that stand for themselves and need no further look, and a string read with its key.
+use mathlib.Core.Path.{_≡_}
+use mathlib.Core.Bool.{Bool, true, false, not, _&&_}
+use mathlib.Core.List.{List}
+use Prim.Native.Nat.{ℕ, _<_}
+use lib.Dec.{eqb, ltb, leb}
+use Rattle.tokens.specs.String.{stringAt}
+use Rattle.tokens.specs.declared.Read.{Read}
+use Rattle.tokens.specs.declared.Read.the-variants as R
+use Rattle.decode.specs.declared.Keyed.{Keyed}
+use Rattle.decode.specs.declared.Keyed.the-variants as K
+use Rattle.decode.specs.declared.Run.{Run}
+use Rattle.decode.specs.Decode.{decodedFrom}
+use Rattle.decode.specs.Same.{keyFrom, keyOf}
+
+-- ASCII, and no control byte, quote or backslash
+unfoldable pub plain : ℕ → Bool
+plain b = leb 0x20 b && not (eqb b 0x22) && not (eqb b 0x5C) && ltb b 0x80
+
+-- a string that was read, with its key
+abbrev pub keyed : Read → ℕ → Keyed
+keyed (R.To c) k = K.To c k
+keyed R.Bad k = K.Bad
+
+-- the string goes on past the plain bytes, and so does its key
+pub record PlainRun (s : List ℕ) (at : ℕ) (r : Run) : Type 0 where
+  pub string : stringAt s (r .at) ≡ stringAt s at
+  pub key : keyFrom (r .key) (decodedFrom s (r .at)) ≡ keyOf (decodedFrom s at)
+  pub small : r .key < 4294967296
