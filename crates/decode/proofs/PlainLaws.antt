@@ -1,12 +1,12 @@
 -- Past plain bytes a string, its decoded text and its key go on.
 use mathlib.Core.Path.{_≡_, refl, sym, ap, _∙_}
 use mathlib.Core.Bool.{Bool, true, false, not, _&&_}
-use mathlib.Core.List.{List, [], _∷_}
+use mathlib.Core.List.{List, _∷_}
 use Prim.Native.Nat.{ℕ, _≤_, _<_, _+_, _*_, _%_}
 use native.Mathlib.Omega.{arith}
 use lib.ListN.{length}
 use lib.Dec.{eqb, ltb, leb}
-use borrow.Author.Tests.{eq-eqb, ne-eqb, lt-leb, le-leb, leb-true, ltb-true, eqb-true, eqb-false, not-true}
+use borrow.Author.Tests.{eq-eqb, ne-eqb, leb-true, ltb-true, eqb-true, eqb-false, not-true}
 use Rattle.tokens.specs.Text.{byte, to}
 use Rattle.tokens.specs.String.{stringAt}
 use Rattle.tokens.specs.declared.Cursor.{Cursor}
@@ -14,12 +14,11 @@ use Rattle.tokens.specs.declared.Read.{Read}
 use Rattle.tokens.specs.declared.Read.the-variants as R
 use Rattle.tokens.proofs.TextLaws.{inside}
 use Rattle.tokens.proofs.StringLaws.{character-plain, string-close, string-on}
-use Rattle.decode.specs.declared.Keyed.{Keyed}
 use Rattle.decode.specs.declared.Keyed.the-variants as K
 use Rattle.decode.specs.declared.Run.{Run}
 use Rattle.decode.specs.declared.Unit.the-variants.{Byte}
-use Rattle.decode.specs.Decode.{decodedFrom, endsString}
-use Rattle.decode.specs.Same.{same, keyFrom, keyOf}
+use Rattle.decode.specs.Decode.{decodedFrom}
+use Rattle.decode.specs.Same.{same, keyOf}
 use Rattle.decode.specs.Plain.{plain, keyed, PlainRun}
 use Rattle.decode.proofs.DecodeLaws.{from-end, from-unit, unit-plain, ends-not, ends-quote, key-end, key-on}
 

@@ -1,13 +1,12 @@
 -- Steps of reading the items of an array or object one by one, on plain variables, for code that does so.
-use mathlib.Core.Path.{_≡_, refl, sym, ap, subst, _∙_}
-use mathlib.Core.Bool.{Bool, true, false, cond}
-use mathlib.Core.List.{List, [], _∷_}
+use mathlib.Core.Path.{_≡_, refl, sym, subst}
+use mathlib.Core.List.{List}
 use Prim.Native.Nat.{ℕ, zero, suc, _≤_, _<_, _+_, _-_}
 use native.Mathlib.Omega.{arith}
 use native.Mathlib.Numerals.{sub-one}
-use lib.ListN.{length, getD}
+use lib.ListN.{length}
 use borrow.Author.Tests.{eq-eqb, ne-eqb}
-use Rattle.tokens.specs.Run.{Turn, on, out}
+use Rattle.tokens.specs.Run.{on}
 use Rattle.tokens.specs.Text.{byte, to, skipBlanks}
 use Rattle.tokens.specs.Group.{afterItem, nameAt}
 use Rattle.tokens.specs.declared.Cursor.{Cursor}
@@ -19,7 +18,7 @@ use Rattle.tokens.specs.declared.Name.{Name}
 use Rattle.tokens.specs.declared.Name.the-variants as N
 use Rattle.tokens.proofs.RunLaws.{Advances, run-out, run-on}
 use Rattle.tokens.proofs.TextLaws.{inside}
-use Rattle.tokens.proofs.GroupLaws.{OnwardAfter, onward-item, onward-close, onward-neither, after-onward, OnwardName, onward-name, name-onward}
+use Rattle.tokens.proofs.GroupLaws.{OnwardAfter, onward-item, after-onward, OnwardName, onward-name, name-onward}
 use Rattle.grammar.specs.Grammar.{Value}
 use Rattle.grammar.specs.Reading.{afterTurn, thenTurn, itemTurn, itemsAt, groupAt, valueOf, memberAt, valueAt, arrayAt, objectAt}
 use Rattle.grammar.proofs.Derived.{Derived, derived, stands-all}

@@ -6,7 +6,6 @@ pub mod Strings
 pub mod Groups
 pub mod Values
 pub mod Theorem
-pub mod Depth
 pub mod SkipLaws
 pub mod SkipRead
 pub mod ItemLaws

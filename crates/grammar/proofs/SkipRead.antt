@@ -1,7 +1,7 @@
 -- A string or value that was read is passed by its quotes and brackets alone.
 use mathlib.Core.Path.{_≡_, subst}
 use mathlib.Core.Bool.{false}
-use mathlib.Core.List.{List, [], _∷_, _++_}
+use mathlib.Core.List.{List}
 use Prim.Native.Nat.{ℕ, _+_}
 use Rattle.tokens.specs.Text.{byte}
 use Rattle.tokens.specs.String.{stringAt}

@@ -1,9 +1,9 @@
 -- A JSON text read from place to place (ECMA-404, 5 to 7). proofs/Theorem.antt shows that this reading accepts exactly the
 -- texts of specs/Grammar.antt.
-use mathlib.Core.Bool.{Bool, true, false, cond}
-use mathlib.Core.List.{List, [], _∷_}
+use mathlib.Core.Bool.{Bool, false, cond}
+use mathlib.Core.List.{List}
 use Prim.Native.Nat.{ℕ, zero, suc, _+_}
-use lib.ListN.{length, getD}
+use lib.ListN.{length}
 use lib.Dec.{eqb, leb}
 use Rattle.limits.specs.Limits.{nesting}
 use Rattle.tokens.specs.Run.{Turn, on, out, run}
@@ -11,7 +11,6 @@ use Rattle.tokens.specs.Text.{byte, ascii, to, skipBlanks, literalAt}
 use Rattle.tokens.specs.String.{stringAt}
 use Rattle.tokens.specs.Number.{numberAt}
 use Rattle.tokens.specs.Group.{afterItem, nameAt}
-use Rattle.tokens.specs.declared.Cursor.{Cursor}
 use Rattle.tokens.specs.declared.Read.{Read}
 use Rattle.tokens.specs.declared.Read.the-variants as R
 use Rattle.tokens.specs.declared.After.{After}

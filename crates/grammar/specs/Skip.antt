@@ -1,10 +1,10 @@
 -- Past a string or a value by its quotes and brackets alone. In a text that is JSON this is where the string or value ends
 -- (proofs/SkipLaws.antt).
-use mathlib.Core.Bool.{Bool, true, false, cond, not, _&&_, _||_}
-use mathlib.Core.List.{List, [], _∷_}
+use mathlib.Core.Bool.{Bool, cond, not, _||_}
+use mathlib.Core.List.{List}
 use Prim.Native.Nat.{ℕ, zero, suc, _+_, _-_}
-use lib.ListN.{length, getD}
-use lib.Dec.{eqb, ltb, leb}
+use lib.ListN.{length}
+use lib.Dec.{eqb, leb}
 use Rattle.tokens.specs.Run.{Turn, on, out, run}
 use Rattle.tokens.specs.Text.{byte, blank, skipWhile}
 

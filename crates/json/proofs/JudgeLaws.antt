@@ -1,20 +1,17 @@
 -- The whole text: from what its value tells to the answer.
-use mathlib.Core.Path.{_≡_, refl, sym, ap, subst, _∙_}
-use mathlib.Core.Bool.{Bool, true, false, cond}
+use mathlib.Core.Path.{_≡_, sym, _∙_}
+use mathlib.Core.Bool.{Bool, true, false}
 use mathlib.Core.List.{List}
 use Prim.Native.Nat.{ℕ, _≤_, _<_}
-use native.Mathlib.Omega.{arith}
 use lib.ListN.{length}
 use borrow.Author.Tests.{lt-leb, le-leb}
 use Rattle.limits.specs.Limits.{nesting}
 use Rattle.tokens.specs.Text.{skipBlanks}
 use Rattle.tokens.specs.declared.Cursor.{Cursor}
-use Rattle.tokens.specs.declared.Read.{Read}
 use Rattle.tokens.specs.declared.Read.the-variants as R
 use Rattle.grammar.specs.Reading.{valueAt, isJson}
 use Rattle.json.specs.declared.Scan.{Scan}
 use Rattle.json.specs.declared.Scan.the-variants as S
-use Rattle.json.specs.declared.Judged.{Judged}
 use Rattle.json.specs.declared.Judged.the-variants.{Good, NotJson, BadMembers}
 use Rattle.json.specs.Names.{badMembersAt}
 use Rattle.json.specs.Judged.{scanned, judged}

@@ -1,6 +1,6 @@
 -- One pass over the items of an array or object: the loops' invariants, and the steps from one to the next.
 use mathlib.Core.Path.{_≡_, refl, sym, ap, subst, _∙_}
-use mathlib.Core.Bool.{Bool, true, false, cond, not, _||_}
+use mathlib.Core.Bool.{Bool, true, false, cond, _||_}
 use mathlib.Core.List.{List, [], _∷_, map}
 use Prim.Native.Nat.{ℕ, zero, suc, _≤_, _<_, _+_, _-_, _*_}
 use native.Mathlib.Omega.{arith}
@@ -8,7 +8,7 @@ use native.Mathlib.Numerals.{add-one, sub-one}
 use lib.ListN.{length, getD, set, take, length-set}
 use lib.Seq.{getD-set-same, getD-set-other, getD-take, take-set-le, take-take}
 use lib.Dec.{eqb, ltb, leb}
-use borrow.Author.Tests.{eq-eqb, ne-eqb, lt-ltb, le-ltb, le-leb, lt-leb, leb-true, leb-false, eqb-true, ltb-true, ltb-false}
+use borrow.Author.Tests.{lt-ltb, le-ltb, leb-true, leb-false, eqb-true, ltb-true, ltb-false}
 use Rattle.limits.specs.Limits.{members}
 use Rattle.tokens.specs.Text.{byte, to, blank, skipBlanks}
 use Rattle.tokens.specs.String.{stringAt}
@@ -23,8 +23,8 @@ use Rattle.tokens.specs.declared.Name.the-variants as N
 use Rattle.tokens.proofs.TextLaws.{inside, cond-elim, blanks-onward, Onward, onward-is}
 use Rattle.tokens.proofs.StringLaws.{string-onward}
 use Rattle.tokens.proofs.GroupLaws.{OnwardName, onward-name, name-onward, OnwardAfter, onward-item, after-onward}
-use Rattle.grammar.specs.Reading.{itemsAt, groupAt, memberAt, valueAt, arrayAt, objectAt}
-use Rattle.grammar.specs.Skip.{skipString, skipValue, opens, scalar}
+use Rattle.grammar.specs.Reading.{itemsAt, memberAt, valueAt, arrayAt, objectAt}
+use Rattle.grammar.specs.Skip.{skipString, scalar}
 use Rattle.grammar.proofs.SkipRead.{string-read, value-read}
 use Rattle.grammar.proofs.ItemLaws.{value-onward, value-forward, member-forward, member-none, member-value, items-none, items-bad, items-close, items-less, items-more, group-empty, group-items, array-deep, object-deep, array-group, object-group}
 use Rattle.members.specs.declared.Member.{Member}
@@ -40,7 +40,7 @@ use Rattle.json.specs.declared.Named.the-variants as D
 use Rattle.json.specs.declared.Names.{Names}
 use Rattle.json.specs.Judged.{scanned, named}
 use Rattle.json.specs.Names.{nameOf, has, repeated, badNames, any, badArray, badObject, badMembersAt}
-use Rattle.json.specs.Stack.{namesOn, KeysAgree, refuses, NameKept, kept, refused, badArrayAt, badObjectAt, Kept, Room}
+use Rattle.json.specs.Stack.{namesOn, KeysAgree, refuses, NameKept, kept, refused, badArrayAt, badObjectAt, Kept}
 
 -- ---- what a scan tells
 pub scan-bad : (x : Read) (b : Bool) → S.Bad ≡ scanned x b → x ≡ R.Bad

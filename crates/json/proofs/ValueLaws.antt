@@ -1,14 +1,11 @@
 -- A value by its first byte: what is read, and whether an object in it has bad members.
-use mathlib.Core.Path.{_≡_, refl, sym, ap, subst, _∙_}
-use mathlib.Core.Bool.{Bool, true, false, cond, _||_}
-use mathlib.Core.List.{List, [], _∷_}
-use Prim.Native.Nat.{ℕ, zero, suc, _≤_, _<_, _+_, _-_}
+use mathlib.Core.Path.{_≡_, refl, sym, ap, _∙_}
+use mathlib.Core.Bool.{false}
+use mathlib.Core.List.{List}
+use Prim.Native.Nat.{ℕ, zero, suc, _+_}
 use native.Mathlib.Omega.{arith}
-use native.Mathlib.Numerals.{sub-one}
-use lib.ListN.{length, getD}
-use lib.Dec.{eqb}
-use borrow.Author.Tests.{eq-eqb, ne-eqb}
-use Rattle.tokens.specs.Text.{byte, ascii, to, skipBlanks, literalAt}
+use borrow.Author.Tests.{ne-eqb}
+use Rattle.tokens.specs.Text.{byte, ascii, literalAt}
 use Rattle.tokens.specs.String.{stringAt}
 use Rattle.tokens.specs.Number.{numberAt}
 use Rattle.tokens.specs.declared.Read.{Read}
@@ -21,12 +18,10 @@ use Rattle.decode.specs.declared.Keyed.{Keyed}
 use Rattle.decode.specs.declared.Keyed.the-variants as K
 use Rattle.decode.specs.Plain.{keyed}
 use Rattle.grammar.specs.Reading.{anyValueAt, valueAt, arrayAt, objectAt}
-use Rattle.members.specs.Members.{membersFrom, elementsFrom}
 use Rattle.json.specs.declared.Scan.{Scan}
-use Rattle.json.specs.declared.Named.{Named}
 use Rattle.json.specs.declared.Named.the-variants as D
 use Rattle.json.specs.Judged.{scanned, named}
-use Rattle.json.specs.Names.{badArray, badObject, badMembersAt}
+use Rattle.json.specs.Names.{badMembersAt}
 use Rattle.json.specs.Stack.{badArrayAt, badObjectAt}
 
 module _ (d : ℕ) (s : List ℕ) (at b : ℕ) (eb : b ≡ byte s at) where

@@ -1,7 +1,7 @@
 -- A whole text: refusals 2 and 3 of document 01.
-use mathlib.Core.Bool.{Bool, true, false, cond}
+use mathlib.Core.Bool.{Bool, cond}
 use mathlib.Core.List.{List}
-use Prim.Native.Nat.{ℕ, zero, suc}
+use Prim.Native.Nat.{ℕ}
 use Rattle.limits.specs.Limits.{nesting}
 use Rattle.tokens.specs.Text.{skipBlanks}
 use Rattle.tokens.specs.declared.Read.{Read}

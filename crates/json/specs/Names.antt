@@ -1,9 +1,9 @@
 -- Document 01, refusal 3: "some object, however deep, has a name twice or over 256 members". "Names [..] are judged after
 -- escapes are decoded".
-use mathlib.Core.Bool.{Bool, true, false, cond, _||_}
+use mathlib.Core.Bool.{Bool, false, cond, _||_}
 use mathlib.Core.List.{List, [], _∷_, map}
 use Prim.Native.Nat.{ℕ, zero, suc}
-use lib.ListN.{length, getD}
+use lib.ListN.{length}
 use lib.Dec.{eqb, ltb}
 use Rattle.limits.specs.Limits.{members}
 use Rattle.tokens.specs.Text.{byte}

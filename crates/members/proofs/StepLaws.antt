@@ -1,13 +1,13 @@
 -- The members and elements one by one: each step passes a byte, and what was read as an item is the next one found.
-use mathlib.Core.Path.{_≡_, refl, sym, ap, subst, _∙_}
+use mathlib.Core.Path.{_≡_, refl, sym, ap, _∙_}
 use mathlib.Core.Bool.{Bool, true, false, cond, not, _||_}
 use mathlib.Core.List.{List, [], _∷_}
-use Prim.Native.Nat.{ℕ, zero, suc, _≤_, _<_, _+_, _-_}
+use Prim.Native.Nat.{ℕ, _≤_, _<_, _+_, _-_}
 use native.Mathlib.Omega.{arith}
-use lib.ListN.{length, getD, List·getD-eq-default}
-use lib.Dec.{eqb, ltb, leb}
-use borrow.Author.Tests.{eq-eqb, ne-eqb, eqb-true, eqb-false, ltb-true, ltb-false, lt-ltb, le-ltb}
-use Rattle.tokens.specs.Text.{byte, blank, skipBlanks, skipWhile}
+use lib.ListN.{length, List·getD-eq-default}
+use lib.Dec.{eqb, ltb}
+use borrow.Author.Tests.{eqb-true, ltb-true, ltb-false}
+use Rattle.tokens.specs.Text.{byte, blank, skipBlanks}
 use Rattle.tokens.specs.Group.{colonAt, afterItem}
 use Rattle.tokens.specs.declared.Cursor.{Cursor}
 use Rattle.tokens.specs.declared.Read.{Read}
@@ -16,15 +16,13 @@ use Rattle.tokens.specs.declared.After.{After}
 use Rattle.tokens.specs.declared.After.the-variants as A
 use Rattle.tokens.proofs.TextLaws.{inside, cond-elim, no-blank, skip-out, skip-onward, blanks-onward, Onward, onward-is}
 use Rattle.tokens.proofs.GroupLaws.{colon-onward}
-use Rattle.grammar.specs.Skip.{skipString, skipValue, skipOpen, opens, closes, scalar}
-use Rattle.grammar.proofs.SkipLaws.{quoted-onward, open-onward, value-string, value-opens, value-scalar, no-scalar}
+use Rattle.grammar.specs.Skip.{skipString, skipValue, opens, closes, scalar}
+use Rattle.grammar.proofs.SkipLaws.{quoted-onward, open-onward, value-scalar, no-scalar}
 use Rattle.members.specs.declared.Member.{Member}
-use Rattle.members.specs.declared.Element.{Element}
 use Rattle.members.specs.declared.MemberStep.{MemberStep}
 use Rattle.members.specs.declared.MemberStep.the-variants as M
 use Rattle.members.specs.declared.ElementStep.{ElementStep}
-use Rattle.members.specs.declared.ElementStep.the-variants as E
-use Rattle.members.specs.Gather.{Step, found, stop, gather}
+use Rattle.members.specs.Gather.{found}
 use Rattle.members.specs.Members.{nextItem, memberTo, memberStep, elementStep, memberFound, elementFound, membersFrom, elementsFrom}
 use Rattle.members.proofs.GatherLaws.{Steps, gather-stop, gather-found}
 use Rattle.members.proofs.WalkLaws.{member-none, member-found, element-found, element-none}

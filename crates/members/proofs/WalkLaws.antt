@@ -1,21 +1,16 @@
 -- Steps of the definitions of specs/Members.antt, on plain variables.
-use mathlib.Core.Path.{_≡_, refl, sym, ap, subst, _∙_}
-use mathlib.Core.Bool.{Bool, true, false, cond, not, _||_}
-use mathlib.Core.List.{List, [], _∷_}
-use Prim.Native.Nat.{ℕ, zero, suc, _≤_, _<_, _+_, _-_}
-use native.Mathlib.Omega.{arith}
-use lib.ListN.{length, getD}
-use lib.Dec.{eqb, ltb}
+use mathlib.Core.Path.{_≡_, refl}
+use mathlib.Core.Bool.{false}
+use mathlib.Core.List.{List}
+use Prim.Native.Nat.{ℕ, _≤_, _<_, _+_, _-_}
 use borrow.Author.Tests.{eq-eqb, ne-eqb, lt-ltb, le-ltb}
-use Rattle.tokens.specs.Text.{byte, blank, skipBlanks}
+use Rattle.tokens.specs.Text.{byte, skipBlanks}
 use Rattle.tokens.specs.Group.{colonAt}
 use Rattle.tokens.specs.declared.Cursor.{Cursor}
 use Rattle.tokens.specs.declared.Read.{Read}
 use Rattle.tokens.specs.declared.Read.the-variants as R
 use Rattle.grammar.specs.Skip.{skipString, skipValue, opens}
-use Rattle.members.specs.declared.MemberStep.{MemberStep}
 use Rattle.members.specs.declared.MemberStep.the-variants as M
-use Rattle.members.specs.declared.ElementStep.{ElementStep}
 use Rattle.members.specs.declared.ElementStep.the-variants as E
 use Rattle.members.specs.Members.{nextItem, memberStep, elementStep}
 

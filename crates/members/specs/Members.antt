@@ -1,9 +1,8 @@
 -- The members of the object, and the elements of the array, whose opening byte stands at a place. Values are passed by their
 -- brackets and quotes; in a text that is JSON these are the members and elements of its derivation (proofs/Theorem.antt).
-use mathlib.Core.Bool.{Bool, true, false, cond}
-use mathlib.Core.List.{List, [], _∷_}
+use mathlib.Core.Bool.{cond}
+use mathlib.Core.List.{List}
 use Prim.Native.Nat.{ℕ, _+_, _-_}
-use lib.ListN.{getD}
 use lib.Dec.{eqb, ltb}
 use Rattle.tokens.specs.Text.{byte, skipBlanks}
 use Rattle.tokens.specs.Group.{colonAt}

@@ -1,10 +1,9 @@
 -- Steps of the definitions of specs/Group.antt, on plain variables.
-use mathlib.Core.Path.{_≡_, refl, sym, ap, subst, _∙_}
-use mathlib.Core.Bool.{Bool, true, false, cond}
-use mathlib.Core.List.{List, [], _∷_}
-use Prim.Native.Nat.{ℕ, zero, suc, _≤_, _<_, _+_, _-_}
+use mathlib.Core.Path.{_≡_, sym, subst, _∙_}
+use mathlib.Core.List.{List}
+use Prim.Native.Nat.{ℕ, _≤_, _<_, _+_, _-_}
 use native.Mathlib.Omega.{arith}
-use lib.ListN.{length, getD}
+use lib.ListN.{length}
 use lib.Dec.{eqb}
 use borrow.Author.Tests.{eq-eqb, ne-eqb, eqb-true}
 use Rattle.tokens.specs.declared.Cursor.{Cursor}
@@ -14,7 +13,7 @@ use Rattle.tokens.specs.declared.After.{After}
 use Rattle.tokens.specs.declared.After.the-variants as A
 use Rattle.tokens.specs.declared.Name.{Name}
 use Rattle.tokens.specs.declared.Name.the-variants as N
-use Rattle.tokens.specs.Text.{byte, to, skipBlanks}
+use Rattle.tokens.specs.Text.{byte, skipBlanks}
 use Rattle.tokens.specs.String.{stringAt}
 use Rattle.tokens.specs.Group.{afterItem, colonAt, nameThen, nameAt}
 use Rattle.tokens.proofs.TextLaws.{inside, cond-elim, blanks-onward, Onward, on-to, on-bad, onward-is, onward-cond}

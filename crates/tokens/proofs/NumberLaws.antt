@@ -1,18 +1,15 @@
 -- Steps of the definitions of specs/Number.antt, on plain variables.
-use mathlib.Core.Path.{_≡_, refl, sym, ap, subst, _∙_}
-use mathlib.Core.Bool.{Bool, true, false, cond}
-use mathlib.Core.List.{List, [], _∷_}
-use Prim.Native.Nat.{ℕ, zero, suc, _≤_, _<_, _+_, _-_}
-use native.Mathlib.Omega.{arith}
-use lib.ListN.{length, getD}
-use lib.Dec.{eqb, ltb, leb}
+use mathlib.Core.Path.{_≡_, refl, ap, _∙_}
+use mathlib.Core.Bool.{true, false}
+use mathlib.Core.List.{List}
+use Prim.Native.Nat.{ℕ, _+_}
 use borrow.Author.Tests.{eq-eqb, ne-eqb}
 use Rattle.tokens.specs.declared.Cursor.{Cursor}
 use Rattle.tokens.specs.declared.Read.{Read}
 use Rattle.tokens.specs.declared.Read.the-variants.{To, Bad}
-use Rattle.tokens.specs.Text.{byte, to, andThen, within}
+use Rattle.tokens.specs.Text.{byte, to, within}
 use Rattle.tokens.specs.Number.{digit, skipDigits, digitsAt, integerAt, fractionAt, skipSign, exponentAt, skipMinus, numberAt}
-use Rattle.tokens.proofs.TextLaws.{then-bad, then-to, cond-elim, skip-onward, Onward, on-to, on-bad, onward-cond, onward-less, onward-past, onward-then}
+use Rattle.tokens.proofs.TextLaws.{then-bad, then-to}
 
 pub no-digit : digit 0 ≡ false
 unfolding within
@@ -94,42 +91,3 @@ module _ (s : List ℕ) (at m : ℕ) (em : m ≡ skipMinus s at) (r : Read) (er 
     pub number-3 : (d : Cursor) (x : Read) → q ≡ To d → x ≡ exponentAt s (d .at) → x ≡ numberAt s at
     unfolding numberAt
     number-3 d x ed ex = then-to _ _ r integer-is c x ec (then-to _ (exponentAt s) q eq d x ed ex)
-
--- ---- no reader goes back
-digits-onward : (s : List ℕ) (at : ℕ) → Onward (at + 1) (digitsAt s at)
-unfolding digitsAt
-digits-onward s at =
-    let l : at + 1 ≤ skipDigits s (at + 1) = skip-onward digit no-digit s (at + 1) in
-    onward-cond (digit (byte s at)) (on-to {c = record { at = skipDigits s (at + 1) }} (omega arith)) on-bad
-
-integer-onward : (s : List ℕ) (at : ℕ) → Onward (at + 1) (integerAt s at)
-unfolding integerAt
-integer-onward s at = onward-cond (eqb (byte s at) 0x30) (on-to {c = record { at = at + 1 }} (omega arith)) (digits-onward s at)
-
-fraction-onward : (s : List ℕ) (at : ℕ) → Onward at (fractionAt s at)
-unfolding fractionAt
-fraction-onward s at = onward-cond (eqb (byte s at) 0x2E) (onward-less (omega arith) (digits-onward s (at + 1))) (on-to {c = record { at = at }} (omega arith))
-
-sign-onward : (s : List ℕ) (at : ℕ) → at ≤ skipSign s at
-unfolding skipSign
-sign-onward s at =
-    cond-elim (λ n. at ≤ n) (eqb (byte s at) 0x2B) _ _ (λ _. omega arith)
-    (λ _. cond-elim (λ n. at ≤ n) (eqb (byte s at) 0x2D) _ _ (λ _. omega arith) (λ _. omega arith))
-
-minus-onward : (s : List ℕ) (at : ℕ) → at ≤ skipMinus s at
-unfolding skipMinus
-minus-onward s at = cond-elim (λ n. at ≤ n) (eqb (byte s at) 0x2D) _ _ (λ _. omega arith) (λ _. omega arith)
-
-exponent-onward : (s : List ℕ) (at : ℕ) → Onward at (exponentAt s at)
-unfolding exponentAt
-exponent-onward s at =
-    let l = sign-onward s (at + 1) in
-    let p = onward-less {at = at} {i = skipSign s (at + 1) + 1} (omega arith) (digits-onward s (skipSign s (at + 1))) in
-    onward-cond (eqb (byte s at) 0x65) p (onward-cond (eqb (byte s at) 0x45) p (on-to {c = record { at = at }} (omega arith)))
-
-pub number-onward : (s : List ℕ) (at : ℕ) → Onward (at + 1) (numberAt s at)
-unfolding numberAt
-number-onward s at =
-    let l = minus-onward s at in
-    onward-then (λ i. andThen (fractionAt s i) (exponentAt s)) (onward-less {at = at + 1} {i = skipMinus s at + 1} (omega arith) (integer-onward s (skipMinus s at)))
-    (λ j. onward-then (exponentAt s) (fraction-onward s j) (exponent-onward s))

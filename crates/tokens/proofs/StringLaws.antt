@@ -1,19 +1,19 @@
 -- Steps of the definitions of specs/String.antt, on plain variables.
 use mathlib.Core.Path.{_≡_, refl, sym, ap, subst, _∙_}
-use mathlib.Core.Bool.{Bool, true, false, cond, _&&_, _||_}
-use mathlib.Core.List.{List, [], _∷_}
-use Prim.Native.Nat.{ℕ, zero, suc, _≤_, _<_, _+_, _-_, _*_}
+use mathlib.Core.Bool.{Bool, true, false, cond}
+use mathlib.Core.List.{List}
+use Prim.Native.Nat.{ℕ, zero, suc, _≤_, _<_, _+_, _*_}
 use native.Mathlib.Omega.{arith}
-use lib.ListN.{length, getD}
-use lib.Dec.{eqb, ltb, leb}
-use borrow.Author.Tests.{eq-eqb, ne-eqb, lt-ltb, le-ltb, ltb-true, ltb-false, leb-true, eqb-true}
+use lib.ListN.{length}
+use lib.Dec.{eqb, ltb}
+use borrow.Author.Tests.{eq-eqb, ne-eqb, lt-ltb, le-ltb, ltb-false}
 use Rattle.tokens.specs.declared.Cursor.{Cursor}
 use Rattle.tokens.specs.declared.Read.{Read}
 use Rattle.tokens.specs.declared.Read.the-variants.{To, Bad}
 use Rattle.tokens.specs.declared.Hex4.{Hex4}
 use Rattle.tokens.specs.declared.Hex4.the-variants as H
 use Rattle.tokens.specs.Run.{Turn, on, out, afterTurn, runTurns, run}
-use Rattle.tokens.specs.Text.{byte, to, andThen, within, byteWithin}
+use Rattle.tokens.specs.Text.{byte, to, within, byteWithin}
 use Rattle.tokens.specs.String.{twoBytes, threeBytes, multibyteAt, hexDigit, ifHex, hex4At, afterHex4, lowSurrogateAt, unicodeEscapeAt, shortEscape, escapeAt, characterAt, onward, stringTurn, stringAt}
 use Rattle.tokens.proofs.RunLaws.{Advances, run-out, run-on}
 use Rattle.tokens.proofs.TextLaws.{inside, cond-elim, then-bad, then-to, Onward, on-to, on-bad, onward-is, onward-cond, onward-less, onward-past, onward-then, byte-onward}

@@ -1,14 +1,14 @@
 -- Steps of the definitions of specs/Text.antt, on plain variables.
-use mathlib.Core.Path.{_≡_, refl, sym, ap, subst, _∙_}
-use mathlib.Core.Bool.{Bool, true, false, cond, _&&_, _||_}
-use mathlib.Core.List.{List, [], _∷_}
+use mathlib.Core.Path.{_≡_, refl, sym, ap, _∙_}
+use mathlib.Core.Bool.{Bool, true, false, cond, _&&_}
+use mathlib.Core.List.{List}
 use Prim.Native.Nat.{ℕ, zero, suc, _≤_, _<_, _+_, _-_}
 use native.Mathlib.Omega.{arith}
 use native.Mathlib.Numerals.{add-one}
 use lib.ListN.{length, getD, drop, drop-of-length-le, List·getD-eq-default}
 use lib.Seq.{drop-cons}
-use lib.Dec.{eqb, ltb, leb}
-use borrow.Author.Tests.{eq-eqb, ne-eqb, lt-ltb, le-ltb, lt-leb, le-leb, ltb-true, ltb-false, leb-true, eqb-true}
+use lib.Dec.{ltb, leb}
+use borrow.Author.Tests.{eq-eqb, ne-eqb, lt-ltb, le-ltb, lt-leb, le-leb, ltb-true, ltb-false, leb-true}
 use Rattle.tokens.specs.declared.Cursor.{Cursor}
 use Rattle.tokens.specs.declared.Read.{Read}
 use Rattle.tokens.specs.declared.Read.the-variants.{To, Bad}
@@ -51,10 +51,6 @@ module _ (lo hi b : ℕ) where
     go : (t : Bool) → (t && leb b hi) ≡ false
     go true = lt-leb _ _ h
     go false = refl
-
-pub blank-last : (b : ℕ) → (b ≡ 0x20 → ⊥) → (b ≡ 0x09 → ⊥) → (b ≡ 0x0A → ⊥) → eqb b 0x0D ≡ blank b
-unfolding blank
-blank-last b f g h = rw (ne-eqb _ _ f, ne-eqb _ _ g, ne-eqb _ _ h)
 
 pub no-blank : blank 0 ≡ false
 unfolding blank
@@ -165,8 +161,3 @@ onward-then f on-bad g = on-bad
 pub byte-onward : (s : List ℕ) (lo hi at : ℕ) → Onward at (byteWithin s lo hi at)
 unfolding byteWithin
 byte-onward s lo hi at = onward-cond (within lo hi (byte s at)) (on-to (omega arith)) on-bad
-
-pub literal-onward : (s w : List ℕ) (at : ℕ) → Onward at (literalAt s w at)
-unfolding literalAt
-literal-onward s [] at = on-to {c = record { at = at }} (omega arith)
-literal-onward s (b ∷ w) at = onward-cond (ltb at (length s) && eqb (byte s at) b) (onward-past (literal-onward s w (at + 1))) on-bad

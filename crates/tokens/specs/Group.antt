@@ -1,12 +1,10 @@
 -- What stands between the items of an array or object (ECMA-404, 6 and 7): commas, the close, and a member's name and colon.
-use mathlib.Core.Bool.{Bool, true, false, cond}
-use mathlib.Core.List.{List, [], _∷_}
+use mathlib.Core.Bool.{cond}
+use mathlib.Core.List.{List}
 use Prim.Native.Nat.{ℕ, _+_, _-_}
-use lib.ListN.{getD}
 use lib.Dec.{eqb}
 use Rattle.tokens.specs.Text.{byte, to, skipBlanks}
 use Rattle.tokens.specs.String.{stringAt}
-use Rattle.tokens.specs.declared.Cursor.{Cursor}
 use Rattle.tokens.specs.declared.Read.{Read}
 use Rattle.tokens.specs.declared.Read.the-variants as R
 use Rattle.tokens.specs.declared.After.{After}

@@ -1,12 +1,11 @@
 -- A number (ECMA-404, 8).
-use mathlib.Core.Bool.{Bool, true, false, cond}
-use mathlib.Core.List.{List, [], _∷_}
-use Prim.Native.Nat.{ℕ, zero, suc, _+_}
-use lib.ListN.{length, getD}
-use lib.Dec.{eqb, ltb, leb}
+use mathlib.Core.Bool.{Bool, cond}
+use mathlib.Core.List.{List}
+use Prim.Native.Nat.{ℕ, _+_}
+use lib.Dec.{eqb}
 use Rattle.tokens.specs.Text.{byte, to, andThen, within, skipWhile}
 use Rattle.tokens.specs.declared.Read.{Read}
-use Rattle.tokens.specs.declared.Read.the-variants.{To, Bad}
+use Rattle.tokens.specs.declared.Read.the-variants.{Bad}
 
 -- `0` to `9`
 abbrev pub digit : ℕ → Bool

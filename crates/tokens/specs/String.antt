@@ -1,13 +1,11 @@
 -- A string, from past its opening quote (ECMA-404, 9), in valid UTF-8 (Unicode, table 3-7). Our choice in document 01: "a
 -- `\u` surrogate without its partner gives 2".
-use mathlib.Core.Bool.{Bool, true, false, cond, _||_}
-use mathlib.Core.List.{List, [], _∷_}
-use Prim.Native.Nat.{ℕ, zero, suc, _+_, _*_, _-_}
-use lib.ListN.{length, getD}
-use lib.Dec.{eqb, ltb, leb}
+use mathlib.Core.Bool.{Bool, cond, _||_}
+use mathlib.Core.List.{List}
+use Prim.Native.Nat.{ℕ, _+_, _*_, _-_}
+use lib.Dec.{eqb, ltb}
 use Rattle.tokens.specs.Run.{Turn, on, out, run}
 use Rattle.tokens.specs.Text.{byte, to, andThen, within, byteWithin}
-use Rattle.tokens.specs.declared.Cursor.{Cursor}
 use Rattle.tokens.specs.declared.Read.{Read}
 use Rattle.tokens.specs.declared.Read.the-variants.{To, Bad}
 use Rattle.tokens.specs.declared.Hex4.{Hex4}

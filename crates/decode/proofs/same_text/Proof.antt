@@ -1,22 +1,12 @@
 use borrow.Author.Needs.{needs}
-use native.Mathlib.Omega.{arith}
-use lib.ListN.{length, getD, drop}
-use Prim.Native.Nat.{ℕ, _≤_, _<_, _-_, _+_, _*_}
-use mathlib.Core.Path.{_≡_, refl, sym, ap, _∙_}
-use mathlib.Core.List.{List, [], _∷_}
-use borrow.Author.Tests.{eq-eqb, ne-eqb, le-leb, lt-leb, lt-ltb}
+use lib.ListN.{length}
+use mathlib.Core.Path.{_≡_, _∙_}
 use Rattle.decode.specs.Decode.{decodedFrom}
-use Rattle.decode.specs.Same.{same, keyOf}
-use Rattle.decode.specs.Plain.{plain, PlainRun}
+use Rattle.decode.specs.Same.{same}
 use Rattle.decode.proofs.DecodeLaws.{stream-start, streamed-next, streamed-end, shorter, both-end, left-end, right-end, both-not, both-on}
 use Rattle.decode.specs.Decode.{decodedFrom, stream}
-use Rattle.decode.specs.Same.{keyFrom}
 use Rattle.decode.proofs.same_text.Statement.{statement}
 use Rattle.decode.proofs.same_text.Tie as tie
-use Rattle.decode.proofs.same_text.Reads as reads
-use Rattle.decode.proofs.same_text.Lts as lts
-use Rattle.decode.proofs.next_byte.Reads as next-byte-reads
-use Rattle.decode.proofs.plain.plain_prefix.Reads as plain-prefix-reads
 
 abbrev Inv-loop : tie.InvT-loop
 Inv-loop s a t b at₀ k₀ bt₀ l₀ at k bt l = same (stream s at k) (stream t bt l) ≡ same (decodedFrom s a) (decodedFrom t b)

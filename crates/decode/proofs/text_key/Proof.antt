@@ -1,22 +1,15 @@
 use borrow.Author.Needs.{needs}
 use native.Mathlib.Omega.{arith}
-use lib.ListN.{length, getD, drop}
-use Prim.Native.Nat.{ℕ, _≤_, _<_, _-_, _+_, _*_}
-use mathlib.Core.Path.{_≡_, refl, sym, ap, _∙_}
-use mathlib.Core.List.{List, [], _∷_}
-use borrow.Author.Tests.{eq-eqb, ne-eqb, le-leb, lt-leb, lt-ltb}
+use lib.ListN.{length}
+use Prim.Native.Nat.{_<_}
+use mathlib.Core.Path.{_≡_, ap, _∙_}
 use Rattle.decode.specs.Decode.{decodedFrom}
-use Rattle.decode.specs.Same.{same, keyOf}
-use Rattle.decode.specs.Plain.{plain, PlainRun}
+use Rattle.decode.specs.Same.{keyOf}
 use Rattle.decode.proofs.DecodeLaws.{stream-start, streamed-next, streamed-end, shorter, key-end, key-on}
 use Rattle.decode.specs.Decode.{decodedFrom, stream}
 use Rattle.decode.specs.Same.{keyFrom}
 use Rattle.decode.proofs.text_key.Statement.{statement}
 use Rattle.decode.proofs.text_key.Tie as tie
-use Rattle.decode.proofs.text_key.Reads as reads
-use Rattle.decode.proofs.text_key.Lts as lts
-use Rattle.decode.proofs.next_byte.Reads as next-byte-reads
-use Rattle.decode.proofs.plain.mix.Reads as mix-reads
 
 abbrev Inv-loop : tie.InvT-loop
 Inv-loop s at h₀ j₀ k₀ h j k = (h < 4294967296) × (keyFrom h (stream s j k) ≡ keyOf (decodedFrom s at))

@@ -1,19 +1,9 @@
-use native.Mathlib.Omega.{arith}
-use lib.ListN.{length, getD, drop}
-use Prim.Native.Nat.{ℕ, _≤_, _<_, _-_, _+_, _*_}
-use mathlib.Core.Path.{_≡_, refl, sym, ap, _∙_}
-use mathlib.Core.List.{List, [], _∷_}
+use mathlib.Core.Path.{sym, _∙_}
 use borrow.Author.Tests.{eq-eqb, ne-eqb}
-use Rattle.grammar.specs.Skip.{skipString, opens, closes, skipOpen, scalar, skipValue}
-use Rattle.tokens.specs.Text.{byte, blank, skipWhile}
-use Rattle.tokens.proofs.TextLaws.{inside, good-inside, skip-on, skip-out}
+use Rattle.grammar.specs.Skip.{scalar}
 use borrow.Author.Needs.{needs}
 use Rattle.members.proofs.is_scalar.Statement.{statement}
 use Rattle.members.proofs.is_scalar.Tie as tie
-use Rattle.members.proofs.is_scalar.Reads as reads
-use Rattle.members.proofs.is_scalar.Lts as lts
-use Rattle.members.proofs.is_close.Reads as is-close-reads
-use Rattle.tokens.proofs.is_blank.Reads as is-blank-reads
 
 returns : tie.Need-returns
 unfolding scalar

@@ -1,20 +1,7 @@
-use native.Mathlib.Omega.{arith}
-use lib.ListN.{length, getD, drop}
-use Prim.Native.Nat.{ℕ, _≤_, _<_, _-_, _+_, _*_}
-use mathlib.Core.Path.{_≡_, refl, sym, ap, _∙_}
-use mathlib.Core.List.{List, [], _∷_}
-use borrow.Author.Tests.{eq-eqb, ne-eqb}
-use Rattle.grammar.specs.Skip.{skipString, opens, closes, skipOpen, scalar, skipValue}
-use Rattle.tokens.specs.Text.{byte, blank, skipWhile}
-use Rattle.tokens.proofs.TextLaws.{inside, good-inside, skip-on, skip-out}
 use Rattle.members.proofs.WalkLaws.{element-found, element-none}
 use borrow.Author.Needs.{needs}
 use Rattle.members.proofs.next_element.Statement.{statement}
 use Rattle.members.proofs.next_element.Tie as tie
-use Rattle.members.proofs.next_element.Reads as reads
-use Rattle.members.proofs.next_element.Lts as lts
-use Rattle.members.proofs.next_item.Reads as next-item-reads
-use Rattle.members.proofs.skip_value.Reads as skip-value-reads
 
 skip-value-requires : tie.Need-skip-value-requires
 skip-value-requires c κs = search needs

@@ -1,20 +1,9 @@
 use native.Mathlib.Omega.{arith}
-use lib.ListN.{length, getD, drop}
-use Prim.Native.Nat.{ℕ, _≤_, _<_, _-_, _+_, _*_}
-use mathlib.Core.Path.{_≡_, refl, sym, ap, _∙_}
-use mathlib.Core.List.{List, [], _∷_}
-use borrow.Author.Tests.{eq-eqb, ne-eqb}
-use Rattle.grammar.specs.Skip.{skipString, opens, closes, skipOpen, scalar, skipValue}
-use Rattle.tokens.specs.Text.{byte, blank, skipWhile}
-use Rattle.tokens.proofs.TextLaws.{inside, good-inside, skip-on, skip-out}
+use Rattle.tokens.proofs.TextLaws.{inside}
 use Rattle.members.proofs.WalkLaws.{next-comma, next-close}
 use borrow.Author.Needs.{needs}
 use Rattle.members.proofs.next_item.Statement.{statement}
 use Rattle.members.proofs.next_item.Tie as tie
-use Rattle.members.proofs.next_item.Reads as reads
-use Rattle.members.proofs.next_item.Lts as lts
-use Rattle.tokens.proofs.Cursor.skip_blanks.Reads as skip-blanks-reads
-use Rattle.tokens.proofs.peek.Reads as peek-reads
 
 skip-blanks-requires : tie.Need-skip-blanks-requires
 skip-blanks-requires c κs = search needs

@@ -1,24 +1,11 @@
 use native.Mathlib.Omega.{arith}
-use lib.ListN.{length, getD, drop}
-use Prim.Native.Nat.{ℕ, _≤_, _<_, _-_, _+_, _*_}
-use mathlib.Core.Path.{_≡_, refl, sym, ap, _∙_}
-use mathlib.Core.List.{List, [], _∷_}
-use borrow.Author.Tests.{eq-eqb, ne-eqb}
-use Rattle.grammar.specs.Skip.{skipString, opens, closes, skipOpen, scalar, skipValue}
-use Rattle.tokens.specs.Text.{byte, blank, skipWhile}
-use Rattle.tokens.proofs.TextLaws.{inside, good-inside, skip-on, skip-out}
+use Prim.Native.Nat.{_+_}
+use Rattle.tokens.proofs.TextLaws.{inside}
 use Rattle.members.proofs.WalkLaws.{member-none, member-bare, member-found}
 use Rattle.grammar.proofs.SkipLaws.{quoted-onward}
 use borrow.Author.Needs.{needs}
 use Rattle.members.proofs.next_member.Statement.{statement}
 use Rattle.members.proofs.next_member.Tie as tie
-use Rattle.members.proofs.next_member.Reads as reads
-use Rattle.members.proofs.next_member.Lts as lts
-use Rattle.members.proofs.next_item.Reads as next-item-reads
-use Rattle.members.proofs.skip_string.Reads as skip-string-reads
-use Rattle.members.proofs.skip_value.Reads as skip-value-reads
-use Rattle.tokens.proofs.Cursor.colon.Reads as colon-reads
-use Rattle.tokens.proofs.peek.Reads as peek-reads
 
 peek-requires : tie.Need-peek-requires
 peek-requires c κs = search needs

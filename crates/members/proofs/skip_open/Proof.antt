@@ -1,21 +1,12 @@
 use borrow.Author.Needs.{needs}
 use native.Mathlib.Omega.{arith}
-use lib.ListN.{length, getD, drop}
-use Prim.Native.Nat.{ℕ, _≤_, _<_, _-_, _+_, _*_}
+use lib.ListN.{length}
+use Prim.Native.Nat.{_≤_, _-_, _+_}
 use mathlib.Core.Path.{_≡_, refl, sym, ap, _∙_}
-use mathlib.Core.List.{List, [], _∷_}
-use borrow.Author.Tests.{eq-eqb, ne-eqb}
-use Rattle.grammar.specs.Skip.{skipString, opens, closes, skipOpen, scalar, skipValue}
-use Rattle.tokens.specs.Text.{byte, blank, skipWhile}
-use Rattle.tokens.proofs.TextLaws.{inside, good-inside, skip-on, skip-out}
+use Rattle.grammar.specs.Skip.{skipOpen}
 use Rattle.grammar.proofs.SkipLaws.{quoted-onward, open-end, open-string, open-opens, open-last, open-closes, open-other}
 use Rattle.members.proofs.skip_open.Statement.{statement}
 use Rattle.members.proofs.skip_open.Tie as tie
-use Rattle.members.proofs.skip_open.Reads as reads
-use Rattle.members.proofs.skip_open.Lts as lts
-use Rattle.members.proofs.is_close.Reads as is-close-reads
-use Rattle.members.proofs.is_open.Reads as is-open-reads
-use Rattle.members.proofs.skip_string.Reads as skip-string-reads
 
 abbrev Inv-loop : tie.InvT-loop
 Inv-loop s at i₀ n₀ i n = (n ≤ i + 1) × (skipOpen s n i ≡ skipOpen s 1 i₀)

@@ -1,20 +1,14 @@
 use borrow.Author.Needs.{needs}
 use native.Mathlib.Omega.{arith}
-use lib.ListN.{length, getD, drop}
-use Prim.Native.Nat.{ℕ, _≤_, _<_, _-_, _+_, _*_}
-use mathlib.Core.Path.{_≡_, refl, sym, ap, _∙_}
-use mathlib.Core.List.{List, [], _∷_}
-use borrow.Author.Tests.{eq-eqb, ne-eqb}
-use Rattle.grammar.specs.Skip.{skipString, opens, closes, skipOpen, scalar, skipValue}
-use Rattle.tokens.specs.Text.{byte, blank, skipWhile}
-use Rattle.tokens.proofs.TextLaws.{inside, good-inside, skip-on, skip-out}
+use lib.ListN.{length}
+use Prim.Native.Nat.{_-_}
+use mathlib.Core.Path.{_≡_, refl, sym, _∙_}
+use Rattle.grammar.specs.Skip.{scalar}
+use Rattle.tokens.specs.Text.{skipWhile}
+use Rattle.tokens.proofs.TextLaws.{good-inside, skip-on, skip-out}
 use Rattle.grammar.proofs.SkipLaws.{no-scalar}
 use Rattle.members.proofs.skip_scalar.Statement.{statement}
 use Rattle.members.proofs.skip_scalar.Tie as tie
-use Rattle.members.proofs.skip_scalar.Reads as reads
-use Rattle.members.proofs.skip_scalar.Lts as lts
-use Rattle.members.proofs.is_scalar.Reads as is-scalar-reads
-use Rattle.tokens.proofs.peek.Reads as peek-reads
 
 abbrev Inv-loop : tie.InvT-loop
 Inv-loop s at i₀ i = skipWhile scalar s i ≡ skipWhile scalar s i₀

@@ -1,18 +1,11 @@
-use borrow.Author.Needs.{needs}
 use native.Mathlib.Omega.{arith}
-use lib.ListN.{length, getD, drop}
-use Prim.Native.Nat.{ℕ, _≤_, _<_, _-_, _+_, _*_}
-use mathlib.Core.Path.{_≡_, refl, sym, ap, _∙_}
-use mathlib.Core.List.{List, [], _∷_}
-use borrow.Author.Tests.{eq-eqb, ne-eqb}
-use Rattle.grammar.specs.Skip.{skipString, opens, closes, skipOpen, scalar, skipValue}
-use Rattle.tokens.specs.Text.{byte, blank, skipWhile}
-use Rattle.tokens.proofs.TextLaws.{inside, good-inside, skip-on, skip-out}
+use lib.ListN.{length}
+use Prim.Native.Nat.{_-_}
+use mathlib.Core.Path.{_≡_, refl, _∙_}
+use Rattle.grammar.specs.Skip.{skipString}
 use Rattle.grammar.proofs.SkipLaws.{quoted-end, quoted-close, quoted-escape, quoted-other}
 use Rattle.members.proofs.skip_string.Statement.{statement}
 use Rattle.members.proofs.skip_string.Tie as tie
-use Rattle.members.proofs.skip_string.Reads as reads
-use Rattle.members.proofs.skip_string.Lts as lts
 
 abbrev Inv-loop : tie.InvT-loop
 Inv-loop s at i₀ i = skipString s i ≡ skipString s i₀

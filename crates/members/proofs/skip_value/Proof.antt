@@ -1,24 +1,12 @@
 use native.Mathlib.Omega.{arith}
-use lib.ListN.{length, getD, drop}
-use Prim.Native.Nat.{ℕ, _≤_, _<_, _-_, _+_, _*_}
-use mathlib.Core.Path.{_≡_, refl, sym, ap, _∙_}
-use mathlib.Core.List.{List, [], _∷_}
-use borrow.Author.Tests.{eq-eqb, ne-eqb}
-use Rattle.grammar.specs.Skip.{skipString, opens, closes, skipOpen, scalar, skipValue}
-use Rattle.tokens.specs.Text.{byte, blank, skipWhile}
-use Rattle.tokens.proofs.TextLaws.{inside, good-inside, skip-on, skip-out}
+use mathlib.Core.Path.{sym, _∙_}
+use Rattle.grammar.specs.Skip.{opens}
+use Rattle.tokens.proofs.TextLaws.{inside, good-inside}
 use Rattle.grammar.proofs.SkipLaws.{value-string, value-opens, value-scalar}
 use Rattle.members.proofs.WalkLaws.{open-inside}
 use borrow.Author.Needs.{needs}
 use Rattle.members.proofs.skip_value.Statement.{statement}
 use Rattle.members.proofs.skip_value.Tie as tie
-use Rattle.members.proofs.skip_value.Reads as reads
-use Rattle.members.proofs.skip_value.Lts as lts
-use Rattle.members.proofs.is_open.Reads as is-open-reads
-use Rattle.members.proofs.skip_open.Reads as skip-open-reads
-use Rattle.members.proofs.skip_scalar.Reads as skip-scalar-reads
-use Rattle.members.proofs.skip_string.Reads as skip-string-reads
-use Rattle.tokens.proofs.peek.Reads as peek-reads
 
 peek-requires : tie.Need-peek-requires
 peek-requires c κs = search needs

@@ -1,16 +1,6 @@
-use borrow.Author.Needs.{needs}
-use native.Mathlib.Omega.{arith}
-use lib.ListN.{length, getD, drop}
-use Prim.Native.Nat.{ℕ, _≤_, _<_, _-_, _+_, _*_}
-use mathlib.Core.Path.{_≡_, refl, sym, ap, _∙_}
-use mathlib.Core.List.{List, [], _∷_}
-use borrow.Author.Tests.{eq-eqb, ne-eqb}
-use Rattle.tokens.specs.Text.{byte, blank, within, skipBlanks, literalAt}
 use Rattle.tokens.proofs.TextLaws.{within-below, within-from}
 use Rattle.tokens.proofs.code_within.Statement.{statement}
 use Rattle.tokens.proofs.code_within.Tie as tie
-use Rattle.tokens.proofs.code_within.Reads as reads
-use Rattle.tokens.proofs.code_within.Lts as lts
 
 returns : tie.Need-returns
 returns c = within-below _ _ _ (c .if1 .taken)

@@ -1,15 +1,7 @@
-use borrow.Author.Needs.{needs}
-use native.Mathlib.Omega.{arith}
-use lib.ListN.{length, getD, drop}
-use Prim.Native.Nat.{ℕ, _≤_, _<_, _-_, _+_, _*_}
-use mathlib.Core.Path.{_≡_, refl, sym, ap, _∙_}
-use mathlib.Core.List.{List, [], _∷_}
 use borrow.Author.Tests.{eq-eqb, ne-eqb}
-use Rattle.tokens.specs.Text.{byte, blank, within, skipBlanks, literalAt}
+use Rattle.tokens.specs.Text.{blank}
 use Rattle.tokens.proofs.is_blank.Statement.{statement}
 use Rattle.tokens.proofs.is_blank.Tie as tie
-use Rattle.tokens.proofs.is_blank.Reads as reads
-use Rattle.tokens.proofs.is_blank.Lts as lts
 
 returns : tie.Need-returns
 unfolding blank

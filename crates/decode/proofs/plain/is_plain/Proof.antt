@@ -1,17 +1,7 @@
-use borrow.Author.Needs.{needs}
-use native.Mathlib.Omega.{arith}
-use lib.ListN.{length, getD, drop}
-use Prim.Native.Nat.{ℕ, _≤_, _<_, _-_, _+_, _*_}
-use mathlib.Core.Path.{_≡_, refl, sym, ap, _∙_}
-use mathlib.Core.List.{List, [], _∷_}
-use borrow.Author.Tests.{eq-eqb, ne-eqb, le-leb, lt-leb, lt-ltb}
-use Rattle.decode.specs.Decode.{decodedFrom}
-use Rattle.decode.specs.Same.{same, keyOf}
-use Rattle.decode.specs.Plain.{plain, PlainRun}
+use borrow.Author.Tests.{eq-eqb, ne-eqb, le-leb, lt-leb}
+use Rattle.decode.specs.Plain.{plain}
 use Rattle.decode.proofs.plain.is_plain.Statement.{statement}
 use Rattle.decode.proofs.plain.is_plain.Tie as tie
-use Rattle.decode.proofs.plain.is_plain.Reads as reads
-use Rattle.decode.proofs.plain.is_plain.Lts as lts
 
 returns : tie.Need-returns
 unfolding plain

@@ -1,23 +1,10 @@
 use native.Mathlib.Omega.{arith}
-use lib.ListN.{length, getD, drop}
-use Prim.Native.Nat.{ℕ, _≤_, _<_, _-_, _+_, _*_}
-use mathlib.Core.Path.{_≡_, refl, sym, ap, _∙_}
-use mathlib.Core.List.{List, [], _∷_}
-use borrow.Author.Tests.{eq-eqb, ne-eqb, le-leb, lt-leb, lt-ltb}
-use Rattle.decode.specs.Decode.{decodedFrom}
-use Rattle.decode.specs.Same.{same, keyOf}
-use Rattle.decode.specs.Plain.{plain, PlainRun}
+use mathlib.Core.Path.{sym, _∙_}
 use Rattle.decode.proofs.PlainLaws.{run-quote, run-bad, run-to}
 use Rattle.tokens.proofs.TextLaws.{inside}
 use borrow.Author.Needs.{needs}
 use Rattle.decode.proofs.plain.keyed_string.Statement.{statement}
 use Rattle.decode.proofs.plain.keyed_string.Tie as tie
-use Rattle.decode.proofs.plain.keyed_string.Reads as reads
-use Rattle.decode.proofs.plain.keyed_string.Lts as lts
-use Rattle.decode.proofs.plain.plain_run.Reads as plain-run-reads
-use Rattle.decode.proofs.text_key.Reads as text-key-reads
-use Rattle.tokens.proofs.Cursor.string.Reads as string-reads
-use Rattle.tokens.proofs.peek.Reads as peek-reads
 
 plain-run-requires : tie.Need-plain-run-requires
 plain-run-requires c κs = search needs

@@ -1,19 +1,13 @@
 use borrow.Author.Needs.{needs}
 use native.Mathlib.Omega.{arith}
-use lib.ListN.{length, getD, drop}
-use Prim.Native.Nat.{ℕ, _≤_, _<_, _-_, _+_, _*_}
-use mathlib.Core.Path.{_≡_, refl, sym, ap, _∙_}
-use mathlib.Core.List.{List, [], _∷_}
-use borrow.Author.Tests.{eq-eqb, ne-eqb, le-leb, lt-leb, lt-ltb}
+use lib.ListN.{length}
+use Prim.Native.Nat.{_-_}
+use mathlib.Core.Path.{_≡_, refl, sym, _∙_}
 use Rattle.decode.specs.Decode.{decodedFrom}
-use Rattle.decode.specs.Same.{same, keyOf}
-use Rattle.decode.specs.Plain.{plain, PlainRun}
+use Rattle.decode.specs.Same.{same}
 use Rattle.decode.proofs.PlainLaws.{both-inside, both-plain}
 use Rattle.decode.proofs.plain.plain_prefix.Statement.{statement}
 use Rattle.decode.proofs.plain.plain_prefix.Tie as tie
-use Rattle.decode.proofs.plain.plain_prefix.Reads as reads
-use Rattle.decode.proofs.plain.plain_prefix.Lts as lts
-use Rattle.decode.proofs.plain.same_plain.Reads as same-plain-reads
 
 abbrev Inv-loop : tie.InvT-loop
 Inv-loop s a t b i₀ j₀ i j = same (decodedFrom s i) (decodedFrom t j) ≡ same (decodedFrom s a) (decodedFrom t b)

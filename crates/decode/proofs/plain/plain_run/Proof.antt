@@ -1,21 +1,12 @@
 use borrow.Author.Needs.{needs}
 use native.Mathlib.Omega.{arith}
-use lib.ListN.{length, getD, drop}
-use Prim.Native.Nat.{ℕ, _≤_, _<_, _-_, _+_, _*_}
-use mathlib.Core.Path.{_≡_, refl, sym, ap, _∙_}
-use mathlib.Core.List.{List, [], _∷_}
-use borrow.Author.Tests.{eq-eqb, ne-eqb, le-leb, lt-leb, lt-ltb}
-use Rattle.decode.specs.Decode.{decodedFrom}
-use Rattle.decode.specs.Same.{same, keyOf}
-use Rattle.decode.specs.Plain.{plain, PlainRun}
+use lib.ListN.{length}
+use Prim.Native.Nat.{_-_}
+use mathlib.Core.Path.{refl, sym, _∙_}
+use Rattle.decode.specs.Plain.{PlainRun}
 use Rattle.decode.proofs.PlainLaws.{plain-inside, run-more}
 use Rattle.decode.proofs.plain.plain_run.Statement.{statement}
 use Rattle.decode.proofs.plain.plain_run.Tie as tie
-use Rattle.decode.proofs.plain.plain_run.Reads as reads
-use Rattle.decode.proofs.plain.plain_run.Lts as lts
-use Rattle.decode.proofs.plain.is_plain.Reads as is-plain-reads
-use Rattle.decode.proofs.plain.mix.Reads as mix-reads
-use Rattle.tokens.proofs.peek.Reads as peek-reads
 
 abbrev Inv-loop : tie.InvT-loop
 Inv-loop s at h₀ i₀ h i = PlainRun s at (record { at = i; key = h })

@@ -1,22 +1,7 @@
-use native.Mathlib.Omega.{arith}
-use lib.ListN.{length, getD, drop}
-use Prim.Native.Nat.{ℕ, _≤_, _<_, _-_, _+_, _*_}
-use mathlib.Core.Path.{_≡_, refl, sym, ap, _∙_}
-use mathlib.Core.List.{List, [], _∷_}
-use borrow.Author.Tests.{eq-eqb, ne-eqb, le-leb, lt-leb, lt-ltb}
-use Rattle.decode.specs.Decode.{decodedFrom}
-use Rattle.decode.specs.Same.{same, keyOf}
-use Rattle.decode.specs.Plain.{plain, PlainRun}
-use lib.Dec.{eqb}
-use Rattle.tokens.specs.Text.{byte}
 use Rattle.decode.proofs.PlainLaws.{plain-same, plain-apart}
 use borrow.Author.Needs.{needs}
 use Rattle.decode.proofs.plain.same_plain.Statement.{statement}
 use Rattle.decode.proofs.plain.same_plain.Tie as tie
-use Rattle.decode.proofs.plain.same_plain.Reads as reads
-use Rattle.decode.proofs.plain.same_plain.Lts as lts
-use Rattle.decode.proofs.plain.is_plain.Reads as is-plain-reads
-use Rattle.tokens.proofs.peek.Reads as peek-reads
 
 peek-requires : tie.Need-peek-requires
 peek-requires c κs = search needs

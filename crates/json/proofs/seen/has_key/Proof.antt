@@ -1,21 +1,13 @@
 use borrow.Author.Needs.{needs}
 use native.Mathlib.Omega.{arith}
-use lib.ListN.{length, getD, drop}
-use Prim.Native.Nat.{ℕ, _≤_, _<_, _-_, _+_, _*_}
-use mathlib.Core.Path.{_≡_, refl, sym, ap, _∙_}
-use mathlib.Core.List.{List, [], _∷_}
-use mathlib.Core.Bool.{Bool, true, false}
-use Rattle.decode.specs.Decode.{decodedFrom}
-use Rattle.json.specs.Names.{has}
-use Rattle.json.specs.Stack.{namesOn}
+use lib.ListN.{length, drop}
+use Prim.Native.Nat.{_-_}
+use mathlib.Core.Path.{_≡_, refl, _∙_}
 use Rattle.json.proofs.SeenLaws.{key-on, key-end}
 use Rattle.json.specs.Stack.{hasKey}
 use mathlib.Core.Bool.{_||_}
 use Rattle.json.proofs.seen.has_key.Statement.{statement}
 use Rattle.json.proofs.seen.has_key.Tie as tie
-use Rattle.json.proofs.seen.has_key.Reads as reads
-use Rattle.json.proofs.seen.has_key.Lts as lts
-use Rattle.json.proofs.seen.either.Reads as either-reads
 
 abbrev Inv-loop : tie.InvT-loop
 Inv-loop keys key found₀ i₀ found i = (found || hasKey key (drop i keys)) ≡ hasKey key keys

@@ -1,19 +1,12 @@
-use borrow.Author.Needs.{needs}
 use native.Mathlib.Omega.{arith}
-use lib.ListN.{length, getD, drop}
-use Prim.Native.Nat.{ℕ, _≤_, _<_, _-_, _+_, _*_}
-use mathlib.Core.Path.{_≡_, refl, sym, ap, _∙_}
-use mathlib.Core.List.{List, [], _∷_}
-use mathlib.Core.Bool.{Bool, true, false}
+use Prim.Native.Nat.{_≤_}
+use mathlib.Core.Path.{_≡_, refl, sym, _∙_}
 use Rattle.decode.specs.Decode.{decodedFrom}
 use Rattle.json.specs.Names.{has}
 use Rattle.json.specs.Stack.{namesOn}
 use Rattle.json.proofs.SeenLaws.{known-found, known-on, known-none, key-at}
 use Rattle.json.proofs.seen.is_among.Statement.{statement}
 use Rattle.json.proofs.seen.is_among.Tie as tie
-use Rattle.json.proofs.seen.is_among.Reads as reads
-use Rattle.json.proofs.seen.is_among.Lts as lts
-use Rattle.json.proofs.seen.same_name.Reads as same-name-reads
 
 abbrev Inv-loop : tie.InvT-loop
 Inv-loop s at key places keys base n k₀ k = (k ≤ n) × (has (decodedFrom s at) (namesOn s places base k) ≡ has (decodedFrom s at) (namesOn s places base n))

@@ -1,20 +1,9 @@
 use native.Mathlib.Omega.{arith}
-use lib.ListN.{length, getD, drop}
-use Prim.Native.Nat.{ℕ, _≤_, _<_, _-_, _+_, _*_}
-use mathlib.Core.Path.{_≡_, refl, sym, ap, _∙_}
-use mathlib.Core.List.{List, [], _∷_}
-use mathlib.Core.Bool.{Bool, true, false}
-use Rattle.decode.specs.Decode.{decodedFrom}
-use Rattle.json.specs.Names.{has}
-use Rattle.json.specs.Stack.{namesOn}
+use mathlib.Core.Path.{sym, _∙_}
 use Rattle.json.proofs.SeenLaws.{not-known}
 use borrow.Author.Needs.{needs}
 use Rattle.json.proofs.seen.is_known.Statement.{statement}
 use Rattle.json.proofs.seen.is_known.Tie as tie
-use Rattle.json.proofs.seen.is_known.Reads as reads
-use Rattle.json.proofs.seen.is_known.Lts as lts
-use Rattle.json.proofs.seen.has_key.Reads as has-key-reads
-use Rattle.json.proofs.seen.is_among.Reads as is-among-reads
 
 add-end : tie.Need-add-end
 add-end c = omega arith

@@ -1,19 +1,9 @@
 use native.Mathlib.Omega.{arith}
-use lib.ListN.{length, getD, drop}
-use Prim.Native.Nat.{ℕ, _≤_, _<_, _-_, _+_, _*_}
-use mathlib.Core.Path.{_≡_, refl, sym, ap, _∙_}
-use mathlib.Core.List.{List, [], _∷_}
-use mathlib.Core.Bool.{Bool, true, false}
-use Rattle.decode.specs.Decode.{decodedFrom}
-use Rattle.json.specs.Names.{has}
-use Rattle.json.specs.Stack.{namesOn}
+use mathlib.Core.Path.{sym, _∙_}
 use Rattle.json.proofs.SeenLaws.{name-over, name-known, name-new}
 use borrow.Author.Needs.{needs}
 use Rattle.json.proofs.seen.keep_name.Statement.{statement}
 use Rattle.json.proofs.seen.keep_name.Tie as tie
-use Rattle.json.proofs.seen.keep_name.Reads as reads
-use Rattle.json.proofs.seen.keep_name.Lts as lts
-use Rattle.json.proofs.seen.is_known.Reads as is-known-reads
 
 returns : tie.Need-returns
 returns c = name-over (c .before .before .before .before .args .s .now) (c .before .before .before .before .args .at) (c .before .before .before .before .args .base) (c .before .before .before .before .args .names) (c .before .before .before .before .args .places .now) (c .before .before .before .before .args .keys .now) (c .if1 .taken)

@@ -1,19 +1,7 @@
-use native.Mathlib.Omega.{arith}
-use lib.ListN.{length, getD, drop}
-use Prim.Native.Nat.{ℕ, _≤_, _<_, _-_, _+_, _*_}
-use mathlib.Core.Path.{_≡_, refl, sym, ap, _∙_}
-use mathlib.Core.List.{List, [], _∷_}
-use mathlib.Core.Bool.{Bool, true, false}
-use Rattle.decode.specs.Decode.{decodedFrom}
-use Rattle.json.specs.Names.{has}
-use Rattle.json.specs.Stack.{namesOn}
 use Rattle.json.proofs.SeenLaws.{keys-apart}
 use borrow.Author.Needs.{needs}
 use Rattle.json.proofs.seen.same_name.Statement.{statement}
 use Rattle.json.proofs.seen.same_name.Tie as tie
-use Rattle.json.proofs.seen.same_name.Reads as reads
-use Rattle.json.proofs.seen.same_name.Lts as lts
-use Rattle.decode.proofs.same_text.Reads as same-text-reads
 
 same-text-requires : tie.Need-same-text-requires
 same-text-requires c κs = search needs

@@ -1,13 +1,8 @@
 use borrow.Author.Needs.{needs}
 use native.Mathlib.Omega.{arith}
-use lib.ListN.{length, getD, drop}
-use Prim.Native.Nat.{ℕ, _≤_, _<_, _-_, _+_, _*_}
-use mathlib.Core.Path.{_≡_, refl, sym, ap, _∙_}
-use mathlib.Core.List.{List, [], _∷_}
-use mathlib.Core.Bool.{Bool, true, false}
-use Rattle.decode.specs.Decode.{decodedFrom}
-use Rattle.json.specs.Names.{has}
-use Rattle.json.specs.Stack.{namesOn}
+use lib.ListN.{length}
+use Prim.Native.Nat.{ℕ, _<_, _-_, _+_}
+use mathlib.Core.Path.{_∙_}
 use Rattle.json.proofs.PassLaws.{ArrayPass, array-start, array-stop, array-bad, array-close, array-less, array-again, array-zero, array-empty, array-told, ObjectPass, object-start, object-nameless, object-stop, object-bad, object-close, object-less, object-again, object-zero, object-empty, object-told, name-far, name-keyed, kept-then, kept-less, kept-most, kept-few, kept-places, kept-keys, kept-same}
 use Rattle.json.proofs.ValueLaws.{value-array, value-object, value-leaf}
 use Rattle.tokens.proofs.TextLaws.{inside}

@@ -1,21 +1,8 @@
 use native.Mathlib.Omega.{arith}
-use lib.ListN.{length, getD, drop}
-use Prim.Native.Nat.{ℕ, _≤_, _<_, _-_, _+_, _*_}
-use mathlib.Core.Path.{_≡_, refl, sym, ap, _∙_}
-use mathlib.Core.List.{List, [], _∷_}
-use mathlib.Core.Bool.{Bool, true, false}
-use Rattle.decode.specs.Decode.{decodedFrom}
-use Rattle.json.specs.Names.{has}
-use Rattle.json.specs.Stack.{namesOn}
 use Rattle.json.proofs.JudgeLaws.{judge-none, judge-more, judge-bad, judge-good}
-use Rattle.tokens.proofs.TextLaws.{blanks-onward}
 use borrow.Author.Needs.{needs}
 use Rattle.json.proofs.values.judge_with.Statement.{statement}
 use Rattle.json.proofs.values.judge_with.Tie as tie
-use Rattle.json.proofs.values.judge_with.Reads as reads
-use Rattle.json.proofs.values.judge_with.Lts as lts
-use Rattle.json.proofs.values.value.Reads as value-reads
-use Rattle.tokens.proofs.Cursor.skip_blanks.Reads as skip-blanks-reads
 
 skip-blanks-requires : tie.Need-skip-blanks-requires
 skip-blanks-requires c κs = search needs

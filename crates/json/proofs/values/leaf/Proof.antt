@@ -1,23 +1,10 @@
 use native.Mathlib.Omega.{arith}
-use lib.ListN.{length, getD, drop}
-use Prim.Native.Nat.{ℕ, _≤_, _<_, _-_, _+_, _*_}
-use mathlib.Core.Path.{_≡_, refl, sym, ap, _∙_}
-use mathlib.Core.List.{List, [], _∷_}
-use mathlib.Core.Bool.{Bool, true, false}
-use Rattle.decode.specs.Decode.{decodedFrom}
-use Rattle.json.specs.Names.{has}
-use Rattle.json.specs.Stack.{namesOn}
+use mathlib.Core.Path.{sym, _∙_}
 use Rattle.tokens.proofs.TextLaws.{inside}
 use Rattle.json.proofs.ValueLaws.{leaf-string, leaf-true, leaf-false, leaf-null, leaf-number}
 use borrow.Author.Needs.{needs}
 use Rattle.json.proofs.values.leaf.Statement.{statement}
 use Rattle.json.proofs.values.leaf.Tie as tie
-use Rattle.json.proofs.values.leaf.Reads as reads
-use Rattle.json.proofs.values.leaf.Lts as lts
-use Rattle.tokens.proofs.Cursor.literal.Reads as literal-reads
-use Rattle.tokens.proofs.Cursor.number.Reads as number-reads
-use Rattle.tokens.proofs.Cursor.string.Reads as string-reads
-use Rattle.tokens.proofs.peek.Reads as peek-reads
 
 peek-requires : tie.Need-peek-requires
 peek-requires c κs = search needs

@@ -1,22 +1,9 @@
 use native.Mathlib.Omega.{arith}
-use lib.ListN.{length, getD, drop}
-use Prim.Native.Nat.{ℕ, _≤_, _<_, _-_, _+_, _*_}
-use mathlib.Core.Path.{_≡_, refl, sym, ap, _∙_}
-use mathlib.Core.List.{List, [], _∷_}
-use mathlib.Core.Bool.{Bool, true, false}
-use Rattle.decode.specs.Decode.{decodedFrom}
-use Rattle.json.specs.Names.{has}
-use Rattle.json.specs.Stack.{namesOn}
 use Rattle.json.proofs.ValueLaws.{key-nameless, key-string, key-colon, key-value}
 use Rattle.tokens.proofs.TextLaws.{inside}
 use borrow.Author.Needs.{needs}
 use Rattle.json.proofs.values.name_key.Statement.{statement}
 use Rattle.json.proofs.values.name_key.Tie as tie
-use Rattle.json.proofs.values.name_key.Reads as reads
-use Rattle.json.proofs.values.name_key.Lts as lts
-use Rattle.decode.proofs.keyed_string.Reads as keyed-string-reads
-use Rattle.tokens.proofs.Cursor.colon.Reads as colon-reads
-use Rattle.tokens.proofs.peek.Reads as peek-reads
 
 peek-requires : tie.Need-peek-requires
 peek-requires c κs = search needs

@@ -1,19 +1,10 @@
-use native.Mathlib.Omega.{arith}
-use lib.ListN.{length, getD, drop}
-use Prim.Native.Nat.{ℕ, _≤_, _<_, _-_, _+_, _*_}
-use mathlib.Core.Path.{_≡_, refl, sym, ap, _∙_}
-use mathlib.Core.List.{List, [], _∷_}
-use mathlib.Core.Bool.{Bool, true, false}
-use Rattle.decode.specs.Decode.{decodedFrom}
-use Rattle.json.specs.Names.{has}
-use Rattle.json.specs.Stack.{namesOn}
+use mathlib.Core.Path.{sym, ap}
+use mathlib.Core.Bool.{false}
 use Rattle.json.specs.Judged.{scanned}
 use Rattle.tokens.specs.declared.Read.{Read}
 use borrow.Author.Needs.{needs}
 use Rattle.json.proofs.values.plain.Statement.{statement}
 use Rattle.json.proofs.values.plain.Tie as tie
-use Rattle.json.proofs.values.plain.Reads as reads
-use Rattle.json.proofs.values.plain.Lts as lts
 
 enum-known-r : tie.Need-enum-known-r
 enum-known-r c = search needs

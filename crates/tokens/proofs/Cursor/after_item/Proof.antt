@@ -1,19 +1,9 @@
 use native.Mathlib.Omega.{arith}
-use lib.ListN.{length, getD, drop}
-use Prim.Native.Nat.{ℕ, _≤_, _<_, _-_, _+_, _*_}
-use mathlib.Core.Path.{_≡_, refl, sym, ap, _∙_}
-use mathlib.Core.List.{List, [], _∷_}
-use borrow.Author.Tests.{eq-eqb, ne-eqb}
-use Rattle.tokens.specs.Text.{byte, blank, within, skipBlanks, literalAt}
 use Rattle.tokens.proofs.TextLaws.{inside}
 use Rattle.tokens.proofs.GroupLaws.{after-comma, after-close, after-bad}
 use borrow.Author.Needs.{needs}
 use Rattle.tokens.proofs.Cursor.after_item.Statement.{statement}
 use Rattle.tokens.proofs.Cursor.after_item.Tie as tie
-use Rattle.tokens.proofs.Cursor.after_item.Reads as reads
-use Rattle.tokens.proofs.Cursor.after_item.Lts as lts
-use Rattle.tokens.proofs.Cursor.skip_blanks.Reads as skip-blanks-reads
-use Rattle.tokens.proofs.peek.Reads as peek-reads
 
 skip-blanks-requires : tie.Need-skip-blanks-requires
 skip-blanks-requires c κs = search needs

@@ -1,21 +1,11 @@
 use native.Mathlib.Omega.{arith}
-use lib.ListN.{length, getD, drop}
-use Prim.Native.Nat.{ℕ, _≤_, _<_, _-_, _+_, _*_}
-use mathlib.Core.Path.{_≡_, refl, sym, ap, _∙_}
-use mathlib.Core.List.{List, [], _∷_}
-use borrow.Author.Tests.{eq-eqb, ne-eqb}
-use Rattle.tokens.specs.Text.{byte, blank, within, skipBlanks, literalAt}
+use mathlib.Core.Path.{sym, _∙_}
 use Rattle.tokens.proofs.TextLaws.{good-inside}
 use Rattle.tokens.proofs.NumberLaws.{no-digit, digits-to, digits-bad}
 use Rattle.tokens.specs.Number.{digit}
 use borrow.Author.Needs.{needs}
 use Rattle.tokens.proofs.Cursor.digits.Statement.{statement}
 use Rattle.tokens.proofs.Cursor.digits.Tie as tie
-use Rattle.tokens.proofs.Cursor.digits.Reads as reads
-use Rattle.tokens.proofs.Cursor.digits.Lts as lts
-use Rattle.tokens.proofs.Cursor.skip_digits.Reads as skip-digits-reads
-use Rattle.tokens.proofs.is_within.Reads as is-within-reads
-use Rattle.tokens.proofs.peek.Reads as peek-reads
 
 peek-requires : tie.Need-peek-requires
 peek-requires c κs = search needs

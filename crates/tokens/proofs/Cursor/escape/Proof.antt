@@ -1,21 +1,11 @@
 use native.Mathlib.Omega.{arith}
-use lib.ListN.{length, getD, drop}
-use Prim.Native.Nat.{ℕ, _≤_, _<_, _-_, _+_, _*_}
-use mathlib.Core.Path.{_≡_, refl, sym, ap, _∙_}
-use mathlib.Core.List.{List, [], _∷_}
-use borrow.Author.Tests.{eq-eqb, ne-eqb}
-use Rattle.tokens.specs.Text.{byte, blank, within, skipBlanks, literalAt}
+use mathlib.Core.Path.{sym, _∙_}
 use Rattle.tokens.proofs.TextLaws.{inside, good-inside}
 use Rattle.tokens.proofs.StringLaws.{no-short, escape-short, escape-unicode, escape-bad}
 use Rattle.tokens.specs.String.{shortEscape}
 use borrow.Author.Needs.{needs}
 use Rattle.tokens.proofs.Cursor.escape.Statement.{statement}
 use Rattle.tokens.proofs.Cursor.escape.Tie as tie
-use Rattle.tokens.proofs.Cursor.escape.Reads as reads
-use Rattle.tokens.proofs.Cursor.escape.Lts as lts
-use Rattle.tokens.proofs.Cursor.unicode_escape.Reads as unicode-escape-reads
-use Rattle.tokens.proofs.peek.Reads as peek-reads
-use Rattle.tokens.proofs.string.is_short_escape.Reads as is-short-escape-reads
 
 peek-requires : tie.Need-peek-requires
 peek-requires c κs = search needs

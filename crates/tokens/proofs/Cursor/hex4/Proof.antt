@@ -1,19 +1,11 @@
 use native.Mathlib.Omega.{arith}
-use lib.ListN.{length, getD, drop}
-use Prim.Native.Nat.{ℕ, _≤_, _<_, _-_, _+_, _*_}
-use mathlib.Core.Path.{_≡_, refl, sym, ap, _∙_}
-use mathlib.Core.List.{List, [], _∷_}
-use borrow.Author.Tests.{eq-eqb, ne-eqb}
-use Rattle.tokens.specs.Text.{byte, blank, within, skipBlanks, literalAt}
+use Prim.Native.Nat.{_+_}
+use mathlib.Core.Path.{ap, _∙_}
 use Rattle.tokens.proofs.StringLaws.{hex-inside, hex4-1, hex4-2, hex4-3, hex4-4, hex4-5}
 use Rattle.tokens.specs.String.{hexDigit}
 use borrow.Author.Needs.{needs}
 use Rattle.tokens.proofs.Cursor.hex4.Statement.{statement}
 use Rattle.tokens.proofs.Cursor.hex4.Tie as tie
-use Rattle.tokens.proofs.Cursor.hex4.Reads as reads
-use Rattle.tokens.proofs.Cursor.hex4.Lts as lts
-use Rattle.tokens.proofs.peek.Reads as peek-reads
-use Rattle.tokens.proofs.string.hex_digit.Reads as hex-digit-reads
 
 peek-requires : tie.Need-peek-requires
 peek-requires c κs = search needs

@@ -1,16 +1,11 @@
-use borrow.Author.Needs.{needs}
 use native.Mathlib.Omega.{arith}
-use lib.ListN.{length, getD, drop}
-use Prim.Native.Nat.{ℕ, _≤_, _<_, _-_, _+_, _*_}
-use mathlib.Core.Path.{_≡_, refl, sym, ap, _∙_}
-use mathlib.Core.List.{List, [], _∷_}
-use borrow.Author.Tests.{eq-eqb, ne-eqb}
-use Rattle.tokens.specs.Text.{byte, blank, within, skipBlanks, literalAt}
+use lib.ListN.{length, drop}
+use Prim.Native.Nat.{_-_}
+use mathlib.Core.Path.{_≡_, refl, _∙_}
+use Rattle.tokens.specs.Text.{literalAt}
 use Rattle.tokens.proofs.TextLaws.{literal-end, literal-short, literal-on, literal-not}
 use Rattle.tokens.proofs.Cursor.literal.Statement.{statement}
 use Rattle.tokens.proofs.Cursor.literal.Tie as tie
-use Rattle.tokens.proofs.Cursor.literal.Reads as reads
-use Rattle.tokens.proofs.Cursor.literal.Lts as lts
 
 abbrev Inv-loop : tie.InvT-loop
 Inv-loop s word at₀ i₀ at i = literalAt s (drop i word) at ≡ literalAt s word at₀

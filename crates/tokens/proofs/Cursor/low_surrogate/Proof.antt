@@ -1,20 +1,11 @@
 use native.Mathlib.Omega.{arith}
-use lib.ListN.{length, getD, drop}
-use Prim.Native.Nat.{ℕ, _≤_, _<_, _-_, _+_, _*_}
-use mathlib.Core.Path.{_≡_, refl, sym, ap, _∙_}
-use mathlib.Core.List.{List, [], _∷_}
-use borrow.Author.Tests.{eq-eqb, ne-eqb}
-use Rattle.tokens.specs.Text.{byte, blank, within, skipBlanks, literalAt}
+use Prim.Native.Nat.{_+_}
+use mathlib.Core.Path.{sym, _∙_}
 use Rattle.tokens.proofs.TextLaws.{inside}
 use Rattle.tokens.proofs.StringLaws.{low-1, low-2, low-3, low-4, low-5}
 use borrow.Author.Needs.{needs}
 use Rattle.tokens.proofs.Cursor.low_surrogate.Statement.{statement}
 use Rattle.tokens.proofs.Cursor.low_surrogate.Tie as tie
-use Rattle.tokens.proofs.Cursor.low_surrogate.Reads as reads
-use Rattle.tokens.proofs.Cursor.low_surrogate.Lts as lts
-use Rattle.tokens.proofs.Cursor.hex4.Reads as hex4-reads
-use Rattle.tokens.proofs.code_within.Reads as code-within-reads
-use Rattle.tokens.proofs.peek.Reads as peek-reads
 
 peek-requires : tie.Need-peek-requires
 peek-requires c κs = search needs

@@ -1,20 +1,9 @@
-use native.Mathlib.Omega.{arith}
-use lib.ListN.{length, getD, drop}
-use Prim.Native.Nat.{ℕ, _≤_, _<_, _-_, _+_, _*_}
-use mathlib.Core.Path.{_≡_, refl, sym, ap, _∙_}
-use mathlib.Core.List.{List, [], _∷_}
+use mathlib.Core.Path.{sym, _∙_}
 use borrow.Author.Tests.{eq-eqb, ne-eqb}
-use Rattle.tokens.specs.Text.{byte, blank, within, skipBlanks, literalAt}
 use Rattle.tokens.specs.String.{multibyteAt}
 use borrow.Author.Needs.{needs}
 use Rattle.tokens.proofs.Cursor.multibyte.Statement.{statement}
 use Rattle.tokens.proofs.Cursor.multibyte.Tie as tie
-use Rattle.tokens.proofs.Cursor.multibyte.Reads as reads
-use Rattle.tokens.proofs.Cursor.multibyte.Lts as lts
-use Rattle.tokens.proofs.Cursor.byte_within.Reads as byte-within-reads
-use Rattle.tokens.proofs.Cursor.three_bytes.Reads as three-bytes-reads
-use Rattle.tokens.proofs.Cursor.two_bytes.Reads as two-bytes-reads
-use Rattle.tokens.proofs.is_within.Reads as is-within-reads
 
 is-within-requires : tie.Need-is-within-requires
 is-within-requires c κs = search needs

@@ -1,20 +1,7 @@
-use native.Mathlib.Omega.{arith}
-use lib.ListN.{length, getD, drop}
-use Prim.Native.Nat.{ℕ, _≤_, _<_, _-_, _+_, _*_}
-use mathlib.Core.Path.{_≡_, refl, sym, ap, _∙_}
-use mathlib.Core.List.{List, [], _∷_}
-use borrow.Author.Tests.{eq-eqb, ne-eqb}
-use Rattle.tokens.specs.Text.{byte, blank, within, skipBlanks, literalAt}
 use Rattle.tokens.proofs.NumberLaws.{number-1, number-2, number-3}
 use borrow.Author.Needs.{needs}
 use Rattle.tokens.proofs.Cursor.number.Statement.{statement}
 use Rattle.tokens.proofs.Cursor.number.Tie as tie
-use Rattle.tokens.proofs.Cursor.number.Reads as reads
-use Rattle.tokens.proofs.Cursor.number.Lts as lts
-use Rattle.tokens.proofs.Cursor.exponent.Reads as exponent-reads
-use Rattle.tokens.proofs.Cursor.fraction.Reads as fraction-reads
-use Rattle.tokens.proofs.Cursor.integer.Reads as integer-reads
-use Rattle.tokens.proofs.Cursor.skip_minus.Reads as skip-minus-reads
 
 skip-minus-requires : tie.Need-skip-minus-requires
 skip-minus-requires c κs = search needs

@@ -1,18 +1,12 @@
 use borrow.Author.Needs.{needs}
 use native.Mathlib.Omega.{arith}
-use lib.ListN.{length, getD, drop}
-use Prim.Native.Nat.{ℕ, _≤_, _<_, _-_, _+_, _*_}
-use mathlib.Core.Path.{_≡_, refl, sym, ap, _∙_}
-use mathlib.Core.List.{List, [], _∷_}
-use borrow.Author.Tests.{eq-eqb, ne-eqb}
-use Rattle.tokens.specs.Text.{byte, blank, within, skipBlanks, literalAt}
+use lib.ListN.{length}
+use Prim.Native.Nat.{_-_}
+use mathlib.Core.Path.{_≡_, refl, sym, _∙_}
+use Rattle.tokens.specs.Text.{blank, skipBlanks}
 use Rattle.tokens.proofs.TextLaws.{no-blank, good-inside, skip-on, skip-out}
 use Rattle.tokens.proofs.Cursor.skip_blanks.Statement.{statement}
 use Rattle.tokens.proofs.Cursor.skip_blanks.Tie as tie
-use Rattle.tokens.proofs.Cursor.skip_blanks.Reads as reads
-use Rattle.tokens.proofs.Cursor.skip_blanks.Lts as lts
-use Rattle.tokens.proofs.is_blank.Reads as is-blank-reads
-use Rattle.tokens.proofs.peek.Reads as peek-reads
 
 abbrev Inv-loop : tie.InvT-loop
 Inv-loop s i₀ i = skipBlanks s i ≡ skipBlanks s i₀

@@ -1,20 +1,13 @@
 use borrow.Author.Needs.{needs}
 use native.Mathlib.Omega.{arith}
-use lib.ListN.{length, getD, drop}
-use Prim.Native.Nat.{ℕ, _≤_, _<_, _-_, _+_, _*_}
-use mathlib.Core.Path.{_≡_, refl, sym, ap, _∙_}
-use mathlib.Core.List.{List, [], _∷_}
-use borrow.Author.Tests.{eq-eqb, ne-eqb}
-use Rattle.tokens.specs.Text.{byte, blank, within, skipBlanks, literalAt}
+use lib.ListN.{length}
+use Prim.Native.Nat.{_-_}
+use mathlib.Core.Path.{_≡_, refl, sym, _∙_}
 use Rattle.tokens.specs.Number.{digit, skipDigits}
 use Rattle.tokens.proofs.TextLaws.{good-inside, skip-on, skip-out}
 use Rattle.tokens.proofs.NumberLaws.{no-digit}
 use Rattle.tokens.proofs.Cursor.skip_digits.Statement.{statement}
 use Rattle.tokens.proofs.Cursor.skip_digits.Tie as tie
-use Rattle.tokens.proofs.Cursor.skip_digits.Reads as reads
-use Rattle.tokens.proofs.Cursor.skip_digits.Lts as lts
-use Rattle.tokens.proofs.is_within.Reads as is-within-reads
-use Rattle.tokens.proofs.peek.Reads as peek-reads
 
 abbrev Inv-loop : tie.InvT-loop
 Inv-loop s i₀ i = skipDigits s i ≡ skipDigits s i₀

@@ -1,18 +1,9 @@
 use native.Mathlib.Omega.{arith}
-use lib.ListN.{length, getD, drop}
-use Prim.Native.Nat.{ℕ, _≤_, _<_, _-_, _+_, _*_}
-use mathlib.Core.Path.{_≡_, refl, sym, ap, _∙_}
-use mathlib.Core.List.{List, [], _∷_}
-use borrow.Author.Tests.{eq-eqb, ne-eqb}
-use Rattle.tokens.specs.Text.{byte, blank, within, skipBlanks, literalAt}
 use Rattle.tokens.proofs.TextLaws.{inside}
 use Rattle.tokens.proofs.NumberLaws.{sign-plus, sign-minus, sign-none}
 use borrow.Author.Needs.{needs}
 use Rattle.tokens.proofs.Cursor.skip_sign.Statement.{statement}
 use Rattle.tokens.proofs.Cursor.skip_sign.Tie as tie
-use Rattle.tokens.proofs.Cursor.skip_sign.Reads as reads
-use Rattle.tokens.proofs.Cursor.skip_sign.Lts as lts
-use Rattle.tokens.proofs.peek.Reads as peek-reads
 
 peek-requires : tie.Need-peek-requires
 peek-requires c κs = search needs

@@ -1,20 +1,13 @@
 use borrow.Author.Needs.{needs}
 use native.Mathlib.Omega.{arith}
-use lib.ListN.{length, getD, drop}
-use Prim.Native.Nat.{ℕ, _≤_, _<_, _-_, _+_, _*_}
-use mathlib.Core.Path.{_≡_, refl, sym, ap, _∙_}
-use mathlib.Core.List.{List, [], _∷_}
-use borrow.Author.Tests.{eq-eqb, ne-eqb}
-use Rattle.tokens.specs.Text.{byte, blank, within, skipBlanks, literalAt}
+use lib.ListN.{length}
+use Prim.Native.Nat.{_-_}
+use mathlib.Core.Path.{_≡_, refl, _∙_}
 use Rattle.tokens.proofs.TextLaws.{inside}
 use Rattle.tokens.proofs.StringLaws.{string-close, string-bad, string-less, string-on}
 use Rattle.tokens.specs.String.{stringAt}
 use Rattle.tokens.proofs.Cursor.string.Statement.{statement}
 use Rattle.tokens.proofs.Cursor.string.Tie as tie
-use Rattle.tokens.proofs.Cursor.string.Reads as reads
-use Rattle.tokens.proofs.Cursor.string.Lts as lts
-use Rattle.tokens.proofs.Cursor.character.Reads as character-reads
-use Rattle.tokens.proofs.peek.Reads as peek-reads
 
 abbrev Inv-loop : tie.InvT-loop
 Inv-loop s i₀ i = stringAt s i ≡ stringAt s i₀

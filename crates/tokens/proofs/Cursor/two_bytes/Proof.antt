@@ -1,17 +1,7 @@
-use native.Mathlib.Omega.{arith}
-use lib.ListN.{length, getD, drop}
-use Prim.Native.Nat.{ℕ, _≤_, _<_, _-_, _+_, _*_}
-use mathlib.Core.Path.{_≡_, refl, sym, ap, _∙_}
-use mathlib.Core.List.{List, [], _∷_}
-use borrow.Author.Tests.{eq-eqb, ne-eqb}
-use Rattle.tokens.specs.Text.{byte, blank, within, skipBlanks, literalAt}
 use Rattle.tokens.proofs.StringLaws.{two-bad, two-to}
 use borrow.Author.Needs.{needs}
 use Rattle.tokens.proofs.Cursor.two_bytes.Statement.{statement}
 use Rattle.tokens.proofs.Cursor.two_bytes.Tie as tie
-use Rattle.tokens.proofs.Cursor.two_bytes.Reads as reads
-use Rattle.tokens.proofs.Cursor.two_bytes.Lts as lts
-use Rattle.tokens.proofs.Cursor.byte_within.Reads as byte-within-reads
 
 byte-within-requires : tie.Need-byte-within-requires
 byte-within-requires c κs = search needs

@@ -1,19 +1,8 @@
-use native.Mathlib.Omega.{arith}
-use lib.ListN.{length, getD, drop}
-use Prim.Native.Nat.{ℕ, _≤_, _<_, _-_, _+_, _*_}
-use mathlib.Core.Path.{_≡_, refl, sym, ap, _∙_}
-use mathlib.Core.List.{List, [], _∷_}
-use borrow.Author.Tests.{eq-eqb, ne-eqb}
-use Rattle.tokens.specs.Text.{byte, blank, within, skipBlanks, literalAt}
+use mathlib.Core.Path.{sym, _∙_}
 use Rattle.tokens.proofs.StringLaws.{unicode-none, unicode-pair, unicode-low, unicode-one}
 use borrow.Author.Needs.{needs}
 use Rattle.tokens.proofs.Cursor.unicode_escape.Statement.{statement}
 use Rattle.tokens.proofs.Cursor.unicode_escape.Tie as tie
-use Rattle.tokens.proofs.Cursor.unicode_escape.Reads as reads
-use Rattle.tokens.proofs.Cursor.unicode_escape.Lts as lts
-use Rattle.tokens.proofs.Cursor.hex4.Reads as hex4-reads
-use Rattle.tokens.proofs.Cursor.low_surrogate.Reads as low-surrogate-reads
-use Rattle.tokens.proofs.code_within.Reads as code-within-reads
 
 hex4-requires : tie.Need-hex4-requires
 hex4-requires c κs = search needs

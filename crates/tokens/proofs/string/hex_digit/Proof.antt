@@ -1,18 +1,10 @@
 use native.Mathlib.Omega.{arith}
-use lib.ListN.{length, getD, drop}
-use Prim.Native.Nat.{ℕ, _≤_, _<_, _-_, _+_, _*_}
-use mathlib.Core.Path.{_≡_, refl, sym, ap, _∙_}
-use mathlib.Core.List.{List, [], _∷_}
-use borrow.Author.Tests.{eq-eqb, ne-eqb}
-use Rattle.tokens.specs.Text.{byte, blank, within, skipBlanks, literalAt}
+use mathlib.Core.Path.{sym, _∙_}
 use Rattle.tokens.specs.String.{hexDigit}
 use Rattle.tokens.proofs.TextLaws.{within-is}
 use borrow.Author.Needs.{needs}
 use Rattle.tokens.proofs.string.hex_digit.Statement.{statement}
 use Rattle.tokens.proofs.string.hex_digit.Tie as tie
-use Rattle.tokens.proofs.string.hex_digit.Reads as reads
-use Rattle.tokens.proofs.string.hex_digit.Lts as lts
-use Rattle.tokens.proofs.is_within.Reads as is-within-reads
 
 is-within-requires : tie.Need-is-within-requires
 is-within-requires c κs = search needs

@@ -1,16 +1,7 @@
-use borrow.Author.Needs.{needs}
-use native.Mathlib.Omega.{arith}
-use lib.ListN.{length, getD, drop}
-use Prim.Native.Nat.{ℕ, _≤_, _<_, _-_, _+_, _*_}
-use mathlib.Core.Path.{_≡_, refl, sym, ap, _∙_}
-use mathlib.Core.List.{List, [], _∷_}
 use borrow.Author.Tests.{eq-eqb, ne-eqb}
-use Rattle.tokens.specs.Text.{byte, blank, within, skipBlanks, literalAt}
 use Rattle.tokens.specs.String.{shortEscape}
 use Rattle.tokens.proofs.string.is_short_escape.Statement.{statement}
 use Rattle.tokens.proofs.string.is_short_escape.Tie as tie
-use Rattle.tokens.proofs.string.is_short_escape.Reads as reads
-use Rattle.tokens.proofs.string.is_short_escape.Lts as lts
 
 returns : tie.Need-returns
 unfolding shortEscape
