@@ -1,0 +1,132 @@
+-- Laws that the proofs of the cut's code cite.
+use Prim.Native.Nat.{ℕ, zero, suc, _+_, _-_, _*_, _/_, _≤_, _<_, _^_, min, max}
+use mathlib.Core.Path.{_≡_, refl, sym, ap, _∙_}
+use mathlib.Core.Bool.{Bool, true, false, cond, _&&_}
+use mathlib.Core.List.{List, [], _∷_}
+use native.Mathlib.Omega.{arith}
+use native.Mathlib.Nat.{mul-le-mul-right}
+use mir.Syntax.{w64}
+use mir.Val.{Fits}
+use lib.ListN.{length}
+use lib.Dec.{leb, ltb, eqb}
+use borrow.Author.Tests.{le-leb, lt-leb, ltb-true}
+use Rattle.limits.specs.Limits.{dataset}
+use Rattle.table.specs.declared.Capture.{Capture}
+use Rattle.table.specs.declared.Annotation.{Annotation}
+use Rattle.table.specs.declared.Summary.{Summary}
+use Rattle.table.specs.Memory.{written}
+use Rattle.table.specs.Rows.{captureNumbers, annotationNumbers, flat, capturesOf, annotationsOf}
+use Rattle.table.specs.Table.{wellFormed, Laid}
+use Rattle.table.proofs.TableLaws.{Formed, Numbers, formed-of}
+use Rattle.cutting.specs.Pieces.{inside}
+use Rattle.cutting.specs.Cut.{shares, clipCapture, clipAnnotation, cutCaptures, cutAnnotations, cutSummary, cut, cutIn, refused, cutAnswer, cutCaptureMemory, cutAnnotationMemory}
+use Rattle.cutting.proofs.PiecesLaws.{Inside, within}
+
+pub shares-is : (a b s e x y : ℕ) → x ≡ max a s → y ≡ min b e → ltb x y ≡ shares a b s e
+shares-is a b s e x y p q = rw (p, q)
+
+pub clip-fits : (a b w s x : ℕ) → (b - a) * w < 2 ^ 63 → max a s ≤ b → x ≡ max a s → Fits w64 ((x - a) * w)
+clip-fits a b w s x h k e =
+    let z : x - a ≤ b - a = omega arith in
+    omega (arith, mul-le-mul-right w z)
+
+pub clip-capture : (r : Capture) (a b w s e : ℕ) → s ≡ max a (r .start) → e ≡ min b (r .end) → record { start = s; end = e; first = (s - a) * w; header = 0 } ≡ clipCapture a b w r
+clip-capture r a b w s e p q = rw (p, q)
+
+pub clip-annotation : (r : Annotation) (a b s e : ℕ) → s ≡ max a (r .start) → e ≡ min b (r .end)
+    → record { start = s; end = e; label = r .label; labellen = r .labellen } ≡ clipAnnotation a b r
+clip-annotation r a b s e p q = rw (p, q)
+
+pub clip-below : (a b s e : ℕ) (t : Bool) → t ≡ shares a b s e → t ≡ true → max a s ≤ b
+clip-below a b s e t u f = omega (arith, ltb-true (max a s) (min b e) (sym u ∙ f))
+
+-- ---- the answer, and the memories after it
+pub quarter-room : (c n L : ℕ) → c ≡ n → c ≤ L / 4 → 4 * n ≤ L
+quarter-room c n L e h = omega arith
+
+module _ (t : Summary) (l ns : List ℕ) (a b : ℕ) (m k : List ℕ) (p : Bool) (e : p ≡ wellFormed t l ns) where
+  pub cut-18 : (r : Summary) → r ≡ refused 18 → p ≡ false → r ≡ cutAnswer t l ns a b (length m) (length k)
+  unfolding cutAnswer
+  cut-18 r z f = rw (sym e ∙ f) z
+
+  pub caps-18 : p ≡ false → m ≡ cutCaptureMemory t l ns a b m k
+  caps-18 f = rw (← cut-18 (refused 18) refl f)
+
+  pub notes-18 : p ≡ false → k ≡ cutAnnotationMemory t l ns a b m k
+  notes-18 f = rw (← cut-18 (refused 18) refl f)
+
+  module _ (f : p ≡ true) (q : Bool) (g : q ≡ inside t a b) where
+    pub cut-19 : (r : Summary) → r ≡ refused 19 → q ≡ false → r ≡ cutAnswer t l ns a b (length m) (length k)
+    unfolding cutAnswer
+    cut-19 r z h = rw (sym e ∙ f, sym g ∙ h) z
+
+    pub caps-19 : q ≡ false → m ≡ cutCaptureMemory t l ns a b m k
+    caps-19 h = rw (← cut-19 (refused 19) refl h)
+
+    pub notes-19 : q ≡ false → k ≡ cutAnnotationMemory t l ns a b m k
+    notes-19 h = rw (← cut-19 (refused 19) refl h)
+
+    pub cut-up : q ≡ true → a ≤ b
+    cut-up h = within t a b (sym g ∙ h) .up
+
+    pub cut-below : q ≡ true → (b - a) * t .width < 2 ^ 63
+    cut-below h =
+        let i = within t a b (sym g ∙ h) in
+        let k : b - a ≤ t .samples = omega arith in
+        omega (arith, formed-of t l ns p e f .laid, mul-le-mul-right (t .width) k)
+
+    -- c capture rows and d annotation rows are kept
+    module _ (c d : ℕ) (h : q ≡ true) (kc : c ≡ length (cutCaptures a b (t .width) (capturesOf t l))) (kd : d ≡ length (cutAnnotations a b (annotationsOf t ns))) where
+      capsRoom : c ≤ length m / 4 → 4 * length (cutIn t l ns a b .captures) ≤ length m
+      unfolding cut
+      capsRoom z = omega arith
+
+      capsShort : length m / 4 < c → length m < 4 * length (cutIn t l ns a b .captures)
+      unfolding cut
+      capsShort z = omega arith
+
+      notesRoom : d ≤ length k / 4 → 4 * length (cutIn t l ns a b .annotations) ≤ length k
+      unfolding cut
+      notesRoom z = omega arith
+
+      notesShort : length k / 4 < d → length k < 4 * length (cutIn t l ns a b .annotations)
+      unfolding cut
+      notesShort z = omega arith
+
+      pub cut-20 : (r : Summary) → r ≡ refused 20 → length m / 4 < c → r ≡ cutAnswer t l ns a b (length m) (length k)
+      unfolding cutAnswer
+      cut-20 r z y = rw (sym e ∙ f, sym g ∙ h, lt-leb _ _ (capsShort y)) z
+
+      pub caps-20 : length m / 4 < c → m ≡ cutCaptureMemory t l ns a b m k
+      caps-20 z = rw (← cut-20 (refused 20) refl z)
+
+      pub notes-20 : length m / 4 < c → k ≡ cutAnnotationMemory t l ns a b m k
+      notes-20 z = rw (← cut-20 (refused 20) refl z)
+
+      module _ (zm : c ≤ length m / 4) where
+        pub cut-20′ : (r : Summary) → r ≡ refused 20 → length k / 4 < d → r ≡ cutAnswer t l ns a b (length m) (length k)
+        unfolding cutAnswer
+        cut-20′ r z y = rw (sym e ∙ f, sym g ∙ h, le-leb _ _ (capsRoom zm), lt-leb _ _ (notesShort y)) z
+
+        pub caps-20′ : length k / 4 < d → m ≡ cutCaptureMemory t l ns a b m k
+        caps-20′ z = rw (← cut-20′ (refused 20) refl z)
+
+        pub notes-20′ : length k / 4 < d → k ≡ cutAnnotationMemory t l ns a b m k
+        notes-20′ z = rw (← cut-20′ (refused 20) refl z)
+
+        module _ (zk : d ≤ length k / 4) where
+          pub cut-0 : (r : Summary) → r ≡ cutSummary t a b c d → r ≡ cutAnswer t l ns a b (length m) (length k)
+          unfolding cutAnswer cut
+          cut-0 r z = rw (sym e ∙ f, sym g ∙ h, le-leb _ _ (capsRoom zm), le-leb _ _ (notesRoom zk)) (z ∙ rw (kc, kd))
+
+          said : cutAnswer t l ns a b (length m) (length k) .refusal ≡ 0
+          unfolding cutSummary
+          said = rw (← cut-0 (cutSummary t a b c d) refl) (formed-of t l ns p e f .nums .said)
+
+          pub caps-0 : (m′ : List ℕ) → m′ ≡ written (flat captureNumbers (cutCaptures a b (t .width) (capturesOf t l))) m → m′ ≡ cutCaptureMemory t l ns a b m k
+          unfolding cut
+          caps-0 m′ y = rw said y
+
+          pub notes-0 : (k′ : List ℕ) → k′ ≡ written (flat annotationNumbers (cutAnnotations a b (annotationsOf t ns))) k → k′ ≡ cutAnnotationMemory t l ns a b m k
+          unfolding cut
+          notes-0 k′ y = rw said y

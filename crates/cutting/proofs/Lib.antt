@@ -1,0 +1,11 @@
+pub mod JoinLaws
+pub mod Walk
+pub mod PiecesLaws
+pub mod KeepLaws
+pub mod CutCode
+pub mod SampleLaws
+pub mod CopyCode
+pub mod CutLaws
+pub mod ByteLaws
+pub mod Laws
+pub mod Examples

@@ -1,0 +1,4 @@
+pub mod Pieces
+pub mod Cut
+pub mod Copy
+pub mod Bytes

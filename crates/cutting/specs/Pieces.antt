@@ -1,0 +1,73 @@
+-- Document 01, "Rows, pieces, cuts": pieces; 18, 19, 20.
+use Prim.Native.Nat.{ℕ, zero, suc, _+_, _-_, _*_}
+use mathlib.Core.Bool.{Bool, true, false, _&&_, cond}
+use mathlib.Core.List.{List, [], _∷_}
+use lib.ListN.{length}
+use lib.Dec.{leb, eqb}
+use Rattle.table.specs.declared.Capture.{Capture}
+use Rattle.table.specs.declared.Summary.{Summary}
+use Rattle.table.specs.Memory.{written}
+use Rattle.table.specs.Rows.{capturesOf, flat}
+use Rattle.table.specs.Samples.{place}
+use Rattle.table.specs.Table.{wellFormed}
+use Rattle.cutting.specs.declared.Wrote.{Wrote}
+
+-- "each first byte and length"
+pub record Piece : Type 0 where
+  pub first : ℕ
+  pub len : ℕ
+
+abbrev pub pieceWidth : ℕ
+pieceWidth = 2
+
+abbrev pub pieceNumbers : Piece → List ℕ
+pieceNumbers p = p .first ∷ p .len ∷ []
+
+-- a piece before others: "Two pieces touch if one ends where the next begins; joined, their lengths add"
+unfoldable pub put : Piece → List Piece → List Piece
+put p [] = p ∷ []
+put p (q ∷ t) = cond (eqb (p .first + p .len) (q .first)) (record { first = p .first; len = p .len + q .len } ∷ t) (p ∷ q ∷ t)
+
+-- k samples from sample i on, where sample j has the w bytes from f j: the bytes of each, touching pieces joined
+unfoldable pub runs : (ℕ → ℕ) → ℕ → ℕ → ℕ → List Piece
+runs f w zero i = []
+runs f w (suc k) i = put (record { first = f i; len = w }) (runs f w k (suc i))
+
+-- "Pieces of [a, b)": "maximal runs of consecutive bytes"
+abbrev pub piecesOf : ℕ → ℕ → List Capture → ℕ → ℕ → List Piece
+piecesOf o w rs a b = runs (place o w rs) w (b - a) a
+
+abbrev pub piecesIn : Summary → List ℕ → ℕ → ℕ → List Piece
+piecesIn t caps a b = piecesOf (t .offset) (t .width) (capturesOf t caps) a b
+
+-- pieces followed by others, a touching pair joined
+unfoldable pub followed : List Piece → List Piece → List Piece
+followed [] ys = ys
+followed (p ∷ []) ys = put p ys
+followed (p ∷ q ∷ t) ys = p ∷ followed (q ∷ t) ys
+
+-- "O ≤ a ≤ b ≤ O + N"
+unfoldable pub inside : Summary → ℕ → ℕ → Bool
+inside t a b = leb (t .offset) a && leb a b && leb b (t .offset + t .samples)
+
+abbrev pub wrote : ℕ → ℕ → Wrote
+wrote n c = record { refusal = n; count = c }
+
+-- room: how many numbers the lent memory holds
+unfoldable pub piecesAnswer : Summary → List ℕ → List ℕ → ℕ → ℕ → ℕ → Wrote
+piecesAnswer t caps notes a b room =
+    cond (wellFormed t caps notes)
+    (cond (inside t a b)
+    (cond (leb (pieceWidth * length (piecesIn t caps a b)) room)
+    (wrote 0 (length (piecesIn t caps a b)))
+    (wrote 20 0))
+    (wrote 19 0))
+    (wrote 18 0)
+
+-- the lent memory m after the call: the pieces at its front if accepted, else as it was
+abbrev pub piecesMemory : Summary → List ℕ → List ℕ → ℕ → ℕ → List ℕ → List ℕ
+piecesMemory t caps notes a b m = cond (eqb (piecesAnswer t caps notes a b (length m) .refusal) 0) (written (flat pieceNumbers (piecesIn t caps a b)) m) m
+
+-- samples i to e, past h header bytes, as one piece
+abbrev pub piece : ℕ → ℕ → ℕ → ℕ → ℕ → Piece
+piece o w h i e = record { first = (i - o) * w + h; len = (e - i) * w }

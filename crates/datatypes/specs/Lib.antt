@@ -1,0 +1,2 @@
+pub mod Datatypes
+pub mod Entry

@@ -1,0 +1,229 @@
+-- Demand 3, for every list of steps on every well-formed table with its dataset.
+use Prim.Native.Nat.{ℕ, zero, suc, _+_, _-_, _*_, _≤_, _<_}
+use mathlib.Core.Path.{_≡_, refl, sym, ap, _∙_}
+use mathlib.Core.Bool.{Bool, true, false, _&&_, cond}
+use mathlib.Core.List.{List, [], _∷_, _++_}
+use native.Mathlib.Omega.{arith}
+use lib.ListN.{length, take, drop}
+use lib.Seq.{take-append-seam}
+use lib.Dec.{leb, eqb}
+use borrow.Author.Tests.{le-leb, leb-true, eq-eqb}
+use Rattle.table.specs.declared.Summary.{Summary}
+use Rattle.table.specs.Memory.{written}
+use Rattle.table.specs.Rows.{captureNumbers, annotationNumbers, flat, capturesOf, annotationsOf}
+use Rattle.table.specs.Table.{wellFormed}
+use Rattle.table.proofs.Bools.{and-left, and-right}
+use Rattle.table.proofs.TableLaws.{Formed, Numbers, formed, well-formed}
+use Rattle.cutting.specs.Pieces.{inside, wrote}
+use Rattle.cutting.specs.Cut.{Table, cut, cutSummary, cutCaptures, cutAnnotations, refused, cutAnswer}
+use Rattle.cutting.specs.Copy.{copyAnswer}
+use Rattle.cutting.proofs.PiecesLaws.{Inside, within, inside-true}
+use Rattle.cutting.proofs.SampleLaws.{length-bytes}
+use Rattle.cutting.proofs.CutLaws.{captures-twice, annotations-twice, captures-read, annotations-read, cut-formed, cut-again, copy-again}
+use Rattle.steps.specs.Steps.{Held, Step, accepted, left, step, run, accepts, Last, none, some, Sizes, sizes, allSizes, low, high, theCut, theCopy, fits, takes, next, last, model, Seen, seen, direct, Demand3}
+
+-- ---- tests and facts
+record Fit (lo hi n m y : ℕ) (k : Sizes) : Type 0 where
+  from : lo ≤ k .from
+  up : k .from ≤ k .to
+  upto : k .to ≤ hi
+  caps : 4 * n ≤ k .captureRoom
+  notes : 4 * m ≤ k .annotationRoom
+  bytes : y ≤ k .byteRoom
+
+fit : (lo hi n m y : ℕ) (k : Sizes) → fits lo hi n m y k ≡ true → Fit lo hi n m y k
+unfolding fits
+fit lo hi n m y k e =
+    let a = leb lo (k .from) && leb (k .from) (k .to) in
+    let b = a && leb (k .to) hi in
+    let r = leb (4 * n) (k .captureRoom) && leb (4 * m) (k .annotationRoom) in
+    let d = and-left (b && r) _ e in
+    let c = and-left b r d in
+    let f = and-right b r d in
+    record {
+      from = leb-true _ _ (and-left (leb lo (k .from)) _ (and-left a _ c));
+      up = leb-true _ _ (and-right (leb lo (k .from)) _ (and-left a _ c));
+      upto = leb-true _ _ (and-right a _ c);
+      caps = leb-true _ _ (and-left (leb (4 * n) (k .captureRoom)) _ f);
+      notes = leb-true _ _ (and-right (leb (4 * n) (k .captureRoom)) _ f);
+      bytes = leb-true _ _ (and-right (b && r) _ e);
+    }
+
+fits-ends : (lo hi lo′ hi′ n m y : ℕ) (k : Sizes) → lo ≡ lo′ → hi ≡ hi′ → fits lo hi n m y k ≡ fits lo′ hi′ n m y k
+fits-ends lo hi lo′ hi′ n m y k e f = rw (e, f)
+
+-- needs that agree on ranges in order within lo to hi give one test
+fits-same : (lo hi n m y n′ m′ y′ : ℕ) (k : Sizes) → (lo ≤ k .from → k .from ≤ k .to → k .to ≤ hi → (n ≡ n′) × (m ≡ m′) × (y ≡ y′)) → fits lo hi n m y k ≡ fits lo hi n′ m′ y′ k
+unfolding fits
+fits-same lo hi n m y n′ m′ y′ k f =
+    go (leb lo (k .from)) (leb (k .from) (k .to)) (leb (k .to) hi) (λ p q r. f (leb-true _ _ p) (leb-true _ _ q) (leb-true _ _ r))
+  where
+    go : (u v w : Bool) → (u ≡ true → v ≡ true → w ≡ true → (n ≡ n′) × (m ≡ m′) × (y ≡ y′))
+        → u && v && w && (leb (4 * n) (k .captureRoom) && leb (4 * m) (k .annotationRoom)) && leb y (k .byteRoom)
+        ≡ u && v && w && (leb (4 * n′) (k .captureRoom) && leb (4 * m′) (k .annotationRoom)) && leb y′ (k .byteRoom)
+    go true true true g = rw (g refl refl refl .0, g refl refl refl .1, g refl refl refl .2)
+    go true true false g = refl
+    go true false w g = refl
+    go false v w g = refl
+
+-- ---- one step on a table that is well formed, with its dataset
+pub record Ok (s : Held) : Type 0 where
+  pub accepted-table : wellFormed (s .summary) (s .captures) (s .annotations) ≡ true
+  pub long : length (s .bytes) ≡ s .summary .size
+
+-- the cut and copy of a to b, with the rows in memories m and q
+abbrev pub At : Held → ℕ → ℕ → List ℕ → List ℕ → Held
+At s a b m q = record {
+  summary = theCut s a b .summary;
+  captures = written (flat captureNumbers (cutCaptures a b (s .summary .width) (capturesOf (s .summary) (s .captures)))) m;
+  annotations = written (flat annotationNumbers (cutAnnotations a b (annotationsOf (s .summary) (s .annotations)))) q;
+  bytes = theCopy s a b;
+}
+
+held : {t t′ : Summary} {l l′ n n′ d d′ : List ℕ} → t ≡ t′ → l ≡ l′ → n ≡ n′ → d ≡ d′
+    → _≡_ {A = Held} (record { summary = t; captures = l; annotations = n; bytes = d }) (record { summary = t′; captures = l′; annotations = n′; bytes = d′ })
+held u v y x = λ i. record { summary = u i; captures = v i; annotations = y i; bytes = x i }
+
+both : (i x y : Bool) (u : Summary) (n : ℕ) → u .refusal ≡ 0
+    → eqb (cond i (cond x u (refused 20)) (refused 19) .refusal) 0 && eqb (cond i (cond y (wrote 0 n) (wrote 20 0)) (wrote 19 0) .refusal) 0 ≡ i && x && y
+both true true true u n h = rw h
+both true true false u n h = rw h
+both true false y u n h = refl
+both false x y u n h = refl
+
+module _ (s : Held) (g : Ok s) where
+  F : Formed (s .summary) (s .captures) (s .annotations)
+  F = formed (s .summary) (s .captures) (s .annotations) (g .accepted-table)
+
+  kept : (a b : ℕ) → theCut s a b .summary .refusal ≡ 0
+  unfolding cut cutSummary
+  kept a b = F .nums .said
+
+  accepted-fits : (k : Step) → accepted s k ≡ fits (s .summary .offset) (s .summary .offset + s .summary .samples) (length (theCut s (k .from) (k .to) .captures))
+      (length (theCut s (k .from) (k .to) .annotations)) (length (theCopy s (k .from) (k .to))) (sizes k)
+  unfolding accepted cutAnswer copyAnswer fits inside
+  accepted-fits k = rw (g .accepted-table, eq-eqb _ _ (g .long)) (both (inside (s .summary) (k .from) (k .to)) _ _ (theCut s (k .from) (k .to) .summary) _ (kept (k .from) (k .to)))
+
+  module _ (a b : ℕ) (f : inside (s .summary) a b ≡ true) where
+    cut-is : (x y : ℕ) → 4 * length (theCut s a b .captures) ≤ x → 4 * length (theCut s a b .annotations) ≤ y → cutAnswer (s .summary) (s .captures) (s .annotations) a b x y ≡ theCut s a b .summary
+    unfolding cutAnswer
+    cut-is x y h k = rw (g .accepted-table, f, le-leb _ _ h, le-leb _ _ k)
+
+    copy-is : (room : ℕ) → length (theCopy s a b) ≤ room → copyAnswer (s .summary) (s .captures) (s .annotations) (s .bytes) a b room ≡ wrote 0 (length (theCopy s a b))
+    unfolding copyAnswer
+    copy-is room h = rw (g .accepted-table, eq-eqb _ _ (g .long), f, le-leb _ _ h)
+
+  left-is : (k : Step) → inside (s .summary) (k .from) (k .to) ≡ true
+      → 4 * length (theCut s (k .from) (k .to) .captures) ≤ length (k .captures) → 4 * length (theCut s (k .from) (k .to) .annotations) ≤ length (k .annotations)
+      → length (theCopy s (k .from) (k .to)) ≤ length (k .bytes) → left s k ≡ At s (k .from) (k .to) (k .captures) (k .annotations)
+  unfolding left
+  left-is k f p q r =
+      let e = cut-is (k .from) (k .to) f (length (k .captures)) (length (k .annotations)) p q in
+      held e (rw (e, kept (k .from) (k .to)) (unfold cut in refl)) (rw (e, kept (k .from) (k .to)) (unfold cut in refl))
+      (rw (copy-is _ _ f _ r) (take-append-seam (theCopy s (k .from) (k .to)) _))
+
+  ok-at : (a b : ℕ) (m q : List ℕ) → inside (s .summary) a b ≡ true → Ok (At s a b m q)
+  unfolding cut cutSummary
+  ok-at a b m q f = record {
+    accepted-table = well-formed _ _ _ (cut-formed (s .summary) (s .captures) (s .annotations) m q a b F f);
+    long = length-bytes (s .summary) (s .captures) (s .bytes) (F .laid) (g .long) a b f;
+  }
+
+  -- a cut and copy of a cut and copy is that of the first
+  at-at : (a b c d : ℕ) (m q m′ q′ : List ℕ) → inside (s .summary) a b ≡ true → a ≤ c → c ≤ d → d ≤ b → At (At s a b m q) c d m′ q′ ≡ At s c d m′ q′
+  unfolding cut cutSummary
+  at-at a b c d m q m′ q′ f x y z =
+      held (ap (λ (v : Table). v .summary) (cut-again (s .summary) (s .captures) (s .annotations) m q a b F f c d x z)) captures annotations bytes
+    where
+      captures : At (At s a b m q) c d m′ q′ .captures ≡ At s c d m′ q′ .captures
+      captures = rw (captures-read (s .summary) (s .captures) (s .annotations) m q a b F f, captures-twice a b c d x z (s .summary .width) (capturesOf (s .summary) (s .captures)))
+
+      annotations : At (At s a b m q) c d m′ q′ .annotations ≡ At s c d m′ q′ .annotations
+      annotations = rw (annotations-read (s .summary) (s .captures) (s .annotations) m q a b F f, annotations-twice a b c d x z (annotationsOf (s .summary) (s .annotations)))
+
+      bytes : At (At s a b m q) c d m′ q′ .bytes ≡ At s c d m′ q′ .bytes
+      bytes = copy-again (s .summary) (s .captures) (s .annotations) m q a b F f (s .bytes) (g .long) c d x y z
+
+-- ---- what stands for the original z after the last range p
+pub record Stands (z : Held) (p : Last) (s : Held) : Type 0 where
+  pub ok : Ok s
+  pub lo : s .summary .offset ≡ low z p
+  pub hi : s .summary .offset + s .summary .samples ≡ high z p
+  pub inner : (c d : ℕ) → low z p ≤ c → c ≤ d → d ≤ high z p → inside (z .summary) c d ≡ true
+  pub again : (c d : ℕ) (m q : List ℕ) → low z p ≤ c → c ≤ d → d ≤ high z p → At s c d m q ≡ At z c d m q
+  pub same : seen s ≡ direct z p
+
+module _ (z : Held) (g : Ok z) where
+  at-first : Stands z none z
+  unfolding low high direct
+  at-first = record { ok = g; lo = refl; hi = refl; inner = λ c d p q r. inside-true (z .summary) c d p q r; again = λ c d m q x y w. refl; same = refl }
+
+  at-range : (a b : ℕ) (m q : List ℕ) → inside (z .summary) a b ≡ true → Stands z (some a b) (At z a b m q)
+  unfolding low high direct seen cut cutSummary
+  at-range a b m q f =
+      let i = within (z .summary) a b f in
+      record {
+        ok = ok-at z g a b m q f;
+        lo = refl;
+        hi = omega arith;
+        inner = λ c d x y w. inside-true (z .summary) c d (omega arith) y (omega arith);
+        again = λ c d m′ q′ x y w. at-at z g a b c d m q m′ q′ f x y w;
+        same = rw (captures-read (z .summary) (z .captures) (z .annotations) m q a b (F z g) f, annotations-read (z .summary) (z .captures) (z .annotations) m q a b (F z g) f);
+      }
+
+  module _ (p : Last) (s : Held) (S : Stands z p s) (k : Step) where
+    needs-same : low z p ≤ k .from → k .from ≤ k .to → k .to ≤ high z p
+        → (length (theCut s (k .from) (k .to) .captures) ≡ length (theCut z (k .from) (k .to) .captures))
+        × (length (theCut s (k .from) (k .to) .annotations) ≡ length (theCut z (k .from) (k .to) .annotations))
+        × (length (theCopy s (k .from) (k .to)) ≡ length (theCopy z (k .from) (k .to)))
+    unfolding cut cutSummary
+    needs-same x y w =
+        let e = S .again (k .from) (k .to) [] [] x y w in
+        (ap (λ (h : Held). h .summary .captures) e, ap (λ (h : Held). h .summary .annotations) e, ap (λ (h : Held). length (h .bytes)) e)
+
+    accepted-takes : accepted s k ≡ takes z p (sizes k)
+    unfolding takes
+    accepted-takes = accepted-fits s (S .ok) k ∙ fits-ends _ _ _ _ _ _ _ (sizes k) (S .lo) (S .hi) ∙ fits-same (low z p) (high z p) _ _ _ _ _ _ (sizes k) needs-same
+
+    took : takes z p (sizes k) ≡ true → left s k ≡ At z (k .from) (k .to) (k .captures) (k .annotations)
+    took e =
+        let F = fit _ _ _ _ _ (sizes k) (sym (accepted-fits s (S .ok) k) ∙ accepted-takes ∙ e) in
+        left-is s (S .ok) k (inside-true (s .summary) (k .from) (k .to) (F .from) (F .up) (F .upto)) (F .caps) (F .notes) (F .bytes)
+        ∙ S .again (k .from) (k .to) (k .captures) (k .annotations) (omega (arith, F, S .lo)) (F .up) (omega (arith, F, S .hi))
+
+    took-in : takes z p (sizes k) ≡ true → inside (z .summary) (k .from) (k .to) ≡ true
+    unfolding takes
+    took-in e =
+        let F = fit _ _ _ _ _ (sizes k) e in
+        S .inner (k .from) (k .to) (F .from) (F .up) (F .upto)
+
+    stands-yes : takes z p (sizes k) ≡ true → Stands z (next z p (sizes k)) (step s k)
+    unfolding next step
+    stands-yes e = rw (e, accepted-takes ∙ e, took e) (at-range (k .from) (k .to) (k .captures) (k .annotations) (took-in e))
+
+    stands-no : takes z p (sizes k) ≡ false → Stands z (next z p (sizes k)) (step s k)
+    unfolding next step
+    stands-no e = rw (e, accepted-takes ∙ e) S
+
+    stands : Stands z (next z p (sizes k)) (step s k)
+    stands = go (takes z p (sizes k)) refl
+      where
+        go : (b : Bool) → takes z p (sizes k) ≡ b → Stands z (next z p (sizes k)) (step s k)
+        go true e = stands-yes e
+        go false e = stands-no e
+
+  bits : (p : Last) (s : Held) → Stands z p s → (ks : List Step) → accepts s ks ≡ model z p (allSizes ks)
+  unfolding accepts model allSizes
+  bits p s S [] = refl
+  bits p s S (k ∷ ks) = rw (accepted-takes p s S k, bits (next z p (sizes k)) (step s k) (stands p s S k) ks)
+
+  ends : (p : Last) (s : Held) → Stands z p s → (ks : List Step) → seen (run s ks) ≡ direct z (last z p (allSizes ks))
+  unfolding run last allSizes
+  ends p s S [] = S .same
+  ends p s S (k ∷ ks) = ends (next z p (sizes k)) (step s k) (stands p s S k) ks
+
+-- the one claim about the list
+pub steps : (z : Held) → wellFormed (z .summary) (z .captures) (z .annotations) ≡ true → length (z .bytes) ≡ z .summary .size → (ks : List Step) → Demand3 z ks
+steps z e q ks =
+    let g : Ok z = record { accepted-table = e; long = q } in
+    (bits z g none z (at-first z g) ks, ends z g none z (at-first z g) ks)

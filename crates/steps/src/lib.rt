@@ -1,0 +1,1 @@
+// No code: lists of steps and their theorem stand in specs/ and proofs/.

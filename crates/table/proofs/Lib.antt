@@ -1,0 +1,5 @@
+pub mod Bools
+pub mod RowLaws
+pub mod TableLaws
+pub mod LocateLaws
+pub mod Filling

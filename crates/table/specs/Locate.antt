@@ -1,0 +1,29 @@
+-- Document 01: the place of a sample; 18, 19.
+use Prim.Native.Nat.{ℕ, _+_}
+use mathlib.Core.Bool.{Bool, _&&_, cond}
+use mathlib.Core.List.{List}
+use lib.Dec.{leb, ltb}
+use Rattle.table.specs.declared.Summary.{Summary}
+use Rattle.table.specs.declared.Located.{Located}
+use Rattle.table.specs.Rows.{capturesOf}
+use Rattle.table.specs.Samples.{place}
+use Rattle.table.specs.Table.{wellFormed}
+
+abbrev pub located : ℕ → ℕ → Located
+located n byte = record { refusal = n; byte = byte }
+
+-- "A single sample has O ≤ i < O + N"
+unfoldable pub isSample : Summary → ℕ → Bool
+isSample t i = leb (t .offset) i && ltb i (t .offset + t .samples)
+
+-- the byte at which a sample of the table starts
+abbrev pub placeIn : Summary → List ℕ → ℕ → ℕ
+placeIn t caps i = place (t .offset) (t .width) (capturesOf t caps) i
+
+unfoldable pub locateAnswer : Summary → List ℕ → List ℕ → ℕ → Located
+locateAnswer t caps notes i =
+    cond (wellFormed t caps notes)
+    (cond (isSample t i)
+    (located 0 (placeIn t caps i))
+    (located 19 0))
+    (located 18 0)

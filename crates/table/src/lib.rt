@@ -1,0 +1,390 @@
+// A table of a recording: its summary, its rows in lent flat memory, whether it is well formed, and the place of a sample.
+ghost use mathlib.Core.Path.{_≡_};
+ghost use mathlib.Core.Bool.{true, false};
+ghost use Prim.Native.Nat.{ℕ, _+_, _-_, _*_, _^_, _<_, _≤_};
+ghost use lib.ListN.{length};
+ghost use Rattle.limits.specs.Limits.{dataset};
+ghost use Rattle.table.specs.Memory.{putRow};
+ghost use Rattle.table.specs.Rows.{captureWidth, captureNumbers, captureAt, annotationWidth, annotationNumbers, annotationAt, rest, captures, capturesOf, annotations, annotationsOf};
+ghost use Rattle.table.specs.Samples.{headerSum, headersTo};
+ghost use Rattle.table.specs.Table.{nextStart, captureOk, capturesOk, textOk, textsOk, annotationOk, annotationsOk, formatOk, wellFormed, Laid};
+ghost use Rattle.table.specs.Judge.{numbersOk, layoutOk, summed};
+ghost use Rattle.table.specs.Locate.{isSample, placeIn, locateAnswer};
+use limits::Limits;
+
+// The twelve numbers of a table.
+pub struct Summary {
+    pub refusal: u64,
+    pub datatype: u64,
+    pub channels: u64,
+    pub width: u64,
+    pub offset: u64,
+    pub trailing: u64,
+    pub samples: u64,
+    pub size: u64,
+    pub captures: u64,
+    pub annotations: u64,
+    pub rate: u64,
+    pub ratelen: u64,
+}
+
+// A capture's row.
+pub struct Capture {
+    pub start: u64,
+    pub end: u64,
+    pub first: u64,
+    pub header: u64,
+}
+
+impl Capture {
+    // The numbers of a row.
+    pub const WIDTH: usize = 4;
+}
+
+// An annotation's row.
+pub struct Annotation {
+    pub start: u64,
+    pub end: u64,
+    pub label: u64,
+    pub labellen: u64,
+}
+
+impl Annotation {
+    // The numbers of a row.
+    pub const WIDTH: usize = 4;
+}
+
+// Where a sample starts, or why not.
+pub struct Located {
+    pub refusal: u64,
+    pub byte: u64,
+}
+
+// A sum that stayed within its cap, or none.
+struct Sum {
+    ok: bool,
+    total: u64,
+}
+
+// Capture row i; zeros if the memory has no whole row i.
+pub fn capture_at(rows: &[u64], i: usize) -> Capture
+    ensures { λ r. ⌜ r ≡ captureAt (now (rows .entry)) i ⌝ }
+{
+    if i < rows.len() / Capture::WIDTH {
+        let p = Capture::WIDTH * i;
+        return Capture {
+            start: rows[p],
+            end: rows[p + 1],
+            first: rows[p + 2],
+            header: rows[p + 3],
+        };
+    }
+    Capture {
+        start: 0,
+        end: 0,
+        first: 0,
+        header: 0,
+    }
+}
+
+// Annotation row i; zeros if the memory has no whole row i.
+pub fn annotation_at(rows: &[u64], i: usize) -> Annotation
+    ensures { λ r. ⌜ r ≡ annotationAt (now (rows .entry)) i ⌝ }
+{
+    if i < rows.len() / Annotation::WIDTH {
+        let p = Annotation::WIDTH * i;
+        return Annotation {
+            start: rows[p],
+            end: rows[p + 1],
+            label: rows[p + 2],
+            labellen: rows[p + 3],
+        };
+    }
+    Annotation {
+        start: 0,
+        end: 0,
+        label: 0,
+        labellen: 0,
+    }
+}
+
+// A capture written as row i, if the memory has a whole row i.
+pub fn put_capture(out: &mut [u64], i: usize, x: Capture)
+    ensures { λ r. ⌜ now (out .exit) ≡ putRow captureWidth (now (out .entry)) i (captureNumbers x) ⌝ }
+{
+    if i < out.len() / Capture::WIDTH {
+        let p = Capture::WIDTH * i;
+        out[p] = x.start;
+        out[p + 1] = x.end;
+        out[p + 2] = x.first;
+        out[p + 3] = x.header;
+    }
+}
+
+// An annotation written as row i, if the memory has a whole row i.
+pub fn put_annotation(out: &mut [u64], i: usize, x: Annotation)
+    ensures { λ r. ⌜ now (out .exit) ≡ putRow annotationWidth (now (out .entry)) i (annotationNumbers x) ⌝ }
+{
+    if i < out.len() / Annotation::WIDTH {
+        let p = Annotation::WIDTH * i;
+        out[p] = x.start;
+        out[p + 1] = x.end;
+        out[p + 2] = x.label;
+        out[p + 3] = x.labellen;
+    }
+}
+
+// Where capture row i starts, or e past the last row.
+fn next_start(caps: &[u64], n: usize, i: usize, e: u64) -> u64
+    ensures { λ r. ⌜ r ≡ nextStart e (rest (captureAt (now (caps .entry))) n i) ⌝ }
+{
+    if i < n {
+        let y = capture_at(caps, i);
+        return y.start;
+    }
+    e
+}
+
+// One capture in order, that ends at next and has its first byte past h header bytes.
+fn capture_ok(x: Capture, o: u64, e: u64, w: u64, s: u64, h: u64, next: u64) -> bool
+    requires { ⌜ (o ≤ s) × ((e - o) * w + h < 2 ^ 63) ⌝ }
+    ensures { λ r. ⌜ r ≡ captureOk o e w s h next x ⌝ }
+{
+    if x.start < s {
+        return false;
+    }
+    if x.start > e {
+        return false;
+    }
+    if x.end != next {
+        return false;
+    }
+    let first = (x.start - o) * w + h;
+    x.first == first
+}
+
+// The header bytes of n captures, if their rows are in order and the sum is at most cap.
+fn header_sum(caps: &[u64], n: usize, o: u64, e: u64, w: u64, cap: u64) -> Sum
+    requires { ⌜ (e - o) * w + cap < 2 ^ 63 ⌝ }
+    ensures { λ r. ⌜ r ≡ summed (capturesOk o e w o 0 (captures (now (caps .entry)) n)) cap (headerSum (captures (now (caps .entry)) n)) ⌝ }
+{
+    let mut s = o;
+    let mut h: u64 = 0;
+    let mut i: usize = 0;
+    while i < n {
+        let x = capture_at(caps, i);
+        if x.header > cap - h {
+            return Sum {
+                ok: false,
+                total: 0,
+            };
+        }
+        let next = next_start(caps, n, i + 1, e);
+        h += x.header;
+        if capture_ok(x, o, e, w, s, h, next) {
+            s = x.start;
+            i += 1;
+        } else {
+            return Sum {
+                ok: false,
+                total: 0,
+            };
+        }
+    }
+    Sum { ok: true, total: h }
+}
+
+// The captures' rows are in order, and the parts of the dataset make its size.
+fn layout_ok(t: Summary, caps: &[u64]) -> bool
+    requires { ⌜ (1 ≤ t .width) × (t .size ≤ dataset) × (t .offset + t .samples < 2 ^ 64) ⌝ }
+    ensures { λ r. ⌜ r ≡ layoutOk t (capturesOf t (now (caps .entry))) ⌝ }
+{
+    let o = t.offset;
+    let w = t.width;
+    let n = t.samples;
+    let d = t.size;
+    let tr = t.trailing;
+    if n > d / w {
+        return false;
+    }
+    let left = d - n * w;
+    if tr > left {
+        return false;
+    }
+    let cap = left - tr;
+    let s = header_sum(caps, t.captures as usize, o, o + n, w, cap);
+    if s.ok {
+        return s.total == cap;
+    }
+    false
+}
+
+// A text place ends within the longest metadata.
+fn text_ok(at: u64, len: u64) -> bool
+    ensures { λ r. ⌜ r ≡ textOk at len ⌝ }
+{
+    let most = Limits::METADATA as u64;
+    if at > most {
+        return false;
+    }
+    len <= most - at
+}
+
+// The texts of an annotation have places.
+fn texts_ok(x: Annotation) -> bool
+    ensures { λ r. ⌜ r ≡ textsOk x ⌝ }
+{
+    text_ok(x.label, x.labellen)
+}
+
+// One annotation in order, that ends at e at most, with places for its texts.
+fn annotation_ok(x: Annotation, e: u64, s: u64) -> bool
+    ensures { λ r. ⌜ r ≡ annotationOk e s x ⌝ }
+{
+    if x.start < s {
+        return false;
+    }
+    if x.end < x.start {
+        return false;
+    }
+    if x.end > e {
+        return false;
+    }
+    texts_ok(x)
+}
+
+// The n annotations are in order from o on, and end at e at most.
+fn annotations_ok(notes: &[u64], n: usize, e: u64, o: u64) -> bool
+    ensures { λ r. ⌜ r ≡ annotationsOk e o (annotations (now (notes .entry)) n) ⌝ }
+{
+    let mut s = o;
+    let mut i: usize = 0;
+    while i < n {
+        let x = annotation_at(notes, i);
+        if annotation_ok(x, e, s) {
+            s = x.start;
+            i += 1;
+        } else {
+            return false;
+        }
+    }
+    true
+}
+
+// The code is listed, the channels are allowed, and the width follows from both.
+fn format_ok(t: Summary) -> bool
+    ensures { λ r. ⌜ r ≡ formatOk t ⌝ }
+{
+    let w = datatypes::sample_bytes(t.datatype, t.channels);
+    if w == 0 {
+        return false;
+    }
+    t.width == w
+}
+
+// The summary's own numbers.
+fn numbers_ok(t: Summary) -> bool
+    ensures { λ r. ⌜ r ≡ numbersOk t ⌝ }
+{
+    if t.refusal != 0 {
+        return false;
+    }
+    if format_ok(t) {
+        if t.size > Limits::DATASET {
+            return false;
+        }
+        if t.samples > u64::MAX - t.offset {
+            return false;
+        }
+        return text_ok(t.rate, t.ratelen);
+    }
+    false
+}
+
+// The table is well formed.
+pub fn well_formed(t: Summary, caps: &[u64], notes: &[u64]) -> bool
+    ensures { λ r. ⌜ r ≡ wellFormed t (now (caps .entry)) (now (notes .entry)) ⌝ }
+{
+    if numbers_ok(t) {
+        let n = t.annotations as usize;
+        if t.captures as usize > caps.len() / Capture::WIDTH {
+            return false;
+        }
+        if n > notes.len() / Annotation::WIDTH {
+            return false;
+        }
+        if layout_ok(t, caps) {
+            return annotations_ok(notes, n, t.offset + t.samples, t.offset);
+        }
+        return false;
+    }
+    false
+}
+
+// The headers of all captures, of n, that start at i or before.
+fn headers_to(caps: &[u64], n: usize, i: u64) -> u64
+    requires { ⌜ headerSum (captures (now caps) n) < 2 ^ 63 ⌝ }
+    ensures { λ r. ⌜ r ≡ headersTo (captures (now (caps .entry)) n) i ⌝ }
+{
+    let mut h: u64 = 0;
+    let mut k: usize = 0;
+    while k < n {
+        let x = capture_at(caps, k);
+        k += 1;
+        if x.start > i {
+            continue;
+        }
+        h += x.header;
+    }
+    h
+}
+
+// The bytes of samples o to i, of w bytes each.
+fn bytes_before(i: u64, o: u64, w: u64) -> u64
+    requires { ⌜ (o ≤ i) × ((i - o) * w < 2 ^ 63) ⌝ }
+    ensures { λ r. ⌜ r ≡ (i - o) * w ⌝ }
+{
+    (i - o) * w
+}
+
+// Where sample i of a well-formed table starts.
+pub(crate) fn sample_place(t: Summary, caps: &[u64], i: u64) -> u64
+    requires { ⌜ Laid t (now caps) × (isSample t i ≡ true) ⌝ }
+    ensures { λ r. ⌜ r ≡ placeIn t (now (caps .entry)) i ⌝ }
+{
+    let h = headers_to(caps, t.captures as usize, i);
+    bytes_before(i, t.offset, t.width) + h
+}
+
+// Sample i is in the recording.
+pub(crate) fn is_sample(t: Summary, i: u64) -> bool
+    requires { ⌜ t .offset + t .samples < 2 ^ 64 ⌝ }
+    ensures { λ r. ⌜ r ≡ isSample t i ⌝ }
+{
+    if i < t.offset {
+        return false;
+    }
+    i < t.offset + t.samples
+}
+
+// Where sample i starts.
+pub fn locate(t: Summary, caps: &[u64], notes: &[u64], i: u64) -> Located
+    ensures { λ r. ⌜ r ≡ locateAnswer t (now (caps .entry)) (now (notes .entry)) i ⌝ }
+{
+    if well_formed(t, caps, notes) {
+        if is_sample(t, i) {
+            return Located {
+                refusal: 0,
+                byte: sample_place(t, caps, i),
+            };
+        }
+        return Located {
+            refusal: 19,
+            byte: 0,
+        };
+    }
+    Located {
+        refusal: 18,
+        byte: 0,
+    }
+}
