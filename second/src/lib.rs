@@ -12,6 +12,11 @@ pub mod reader;
 pub mod rng;
 pub mod steps;
 pub mod table;
+pub mod table_answers;
+pub mod table_case;
+pub mod table_cases;
+pub mod table_forged;
+pub mod table_random;
 
 #[cfg(test)]
 mod tests;

@@ -1,17 +1,21 @@
 //! Commands of the second program.
 
-use second::{frames, json_answers, json_cases, listing};
+use second::frames::{read_frames, write_frames, Case};
+use second::{json_answers, json_cases, listing, table_answers, table_cases};
 use std::io::{Read, Write};
 use std::process::ExitCode;
 
-const USAGE: &str = "usage: second json-cases SEED COUNT | json-answers | program";
+const USAGE: &str =
+    "usage: second json-cases SEED COUNT | json-answers | table-cases SEED COUNT | table-answers | program";
 
 fn main() -> ExitCode {
     let args: Vec<String> = std::env::args().skip(1).collect();
     let words: Vec<&str> = args.iter().map(String::as_str).collect();
     let result = match words.as_slice() {
-        ["json-cases", seed, count] => write_json_cases(seed, count),
-        ["json-answers"] => write_json_answers(),
+        ["json-cases", seed, count] => write_cases(json_cases::json_cases, seed, count),
+        ["json-answers"] => write_answers(json_answers::answer),
+        ["table-cases", seed, count] => write_cases(table_cases::table_cases, seed, count),
+        ["table-answers"] => write_answers(table_answers::answer),
         ["program"] => input().and_then(|bytes| output(&listing::program(&bytes))),
         _ => Err(USAGE.to_string()),
     };
@@ -37,17 +41,18 @@ fn output(bytes: &[u8]) -> Result<(), String> {
     out.write_all(bytes).and_then(|()| out.flush()).map_err(|e| e.to_string())
 }
 
-fn write_json_cases(seed: &str, count: &str) -> Result<(), String> {
+/// The cases of a generator, as frames.
+fn write_cases(cases: fn(u64, usize) -> Vec<Case>, seed: &str, count: &str) -> Result<(), String> {
     let seed = seed.parse().map_err(|_| USAGE.to_string())?;
     let count = count.parse().map_err(|_| USAGE.to_string())?;
-    output(&frames::write_frames(&json_cases::json_cases(seed, count)))
+    output(&write_frames(&cases(seed, count)))
 }
 
-fn write_json_answers() -> Result<(), String> {
+/// The answer line of each case on standard input.
+fn write_answers(answer: fn(&Case) -> Option<String>) -> Result<(), String> {
     let mut lines = String::new();
-    for case in frames::read_frames(&input()?)? {
-        let line = json_answers::answer(&case);
-        let line = line.ok_or(format!("unknown letter {}", case.letter as char))?;
+    for case in read_frames(&input()?)? {
+        let line = answer(&case).ok_or(format!("broken case of letter {}", case.letter as char))?;
         lines.push_str(&line);
         lines.push('\n');
     }

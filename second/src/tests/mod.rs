@@ -6,6 +6,7 @@ mod listing;
 mod reader;
 mod steps;
 mod table;
+mod table_cases;
 
 use crate::reader::read;
 use crate::steps::State;
