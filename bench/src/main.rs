@@ -1,4 +1,6 @@
-// Times the judge against serde_json on texts of each kind and length, all interleaved, and prints ratios.
+// Times the judge against serde_json on texts of each kind and length, and the copy against memcpy, all interleaved, and
+// prints ratios.
+mod copies;
 mod texts;
 mod typed;
 
@@ -203,4 +205,5 @@ fn main() {
     print_speeds(&cases);
     print_growth(&cases);
     print_worst(&cases);
+    copies::print_copies(rounds);
 }

@@ -11,14 +11,7 @@ mod table_cases;
 use crate::reader::read;
 use crate::steps::State;
 use crate::table::Summary;
-
-/// The paper's own recording.
-pub const EXAMPLE: &str = concat!(
-    r#"{"global":{"core:datatype":"ci16_le","core:version":"1.0.0"},"#,
-    r#""captures":[{"core:sample_start":0},{"core:sample_start":10,"core:header_bytes":8}],"#,
-    r#""annotations":[{"core:sample_start":4,"core:sample_count":2,"#,
-    r#""core:label":"gate\nannotation 6 8 \"gate\""}]}"#
-);
+pub use crate::table_cases::EXAMPLE;
 
 /// The two required fields, with W = 1.
 pub const G: &str = r#""core:datatype":"ru8","core:version":"1.0.0""#;

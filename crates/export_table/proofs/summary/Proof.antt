@@ -1,0 +1,61 @@
+use Rattle.export_table.proofs.Laws.{summary-of}
+use borrow.Author.Needs.{needs}
+use Rattle.export_table.proofs.summary.Statement.{statement}
+use Rattle.export_table.proofs.summary.Tie as tie
+
+number-requires : tie.Need-number-requires
+number-requires c κs = search needs
+
+number-requires-2 : tie.Need-number-requires-2
+number-requires-2 c κs = search needs
+
+number-requires-3 : tie.Need-number-requires-3
+number-requires-3 c κs = search needs
+
+number-requires-4 : tie.Need-number-requires-4
+number-requires-4 c κs = search needs
+
+number-requires-5 : tie.Need-number-requires-5
+number-requires-5 c κs = search needs
+
+number-requires-6 : tie.Need-number-requires-6
+number-requires-6 c κs = search needs
+
+number-requires-7 : tie.Need-number-requires-7
+number-requires-7 c κs = search needs
+
+number-requires-8 : tie.Need-number-requires-8
+number-requires-8 c κs = search needs
+
+number-requires-9 : tie.Need-number-requires-9
+number-requires-9 c κs = search needs
+
+number-requires-10 : tie.Need-number-requires-10
+number-requires-10 c κs = search needs
+
+number-requires-11 : tie.Need-number-requires-11
+number-requires-11 c κs = search needs
+
+number-requires-12 : tie.Need-number-requires-12
+number-requires-12 c κs = search needs
+
+returns : tie.Need-returns
+returns c = summary-of (c .before .before .before .before .before .before .before .before .before .before .before .before .before .args .v .now) _ _ _ _ _ _ _ _ _ _ _ _ (c .before .before .before .before .before .before .before .before .before .before .before .number .ensures) (c .before .before .before .before .before .before .before .before .before .before .number2 .ensures) (c .before .before .before .before .before .before .before .before .before .number3 .ensures) (c .before .before .before .before .before .before .before .before .number4 .ensures) (c .before .before .before .before .before .before .before .number5 .ensures) (c .before .before .before .before .before .before .number6 .ensures) (c .before .before .before .before .before .number7 .ensures) (c .before .before .before .before .number8 .ensures) (c .before .before .before .number9 .ensures) (c .before .before .number10 .ensures) (c .before .number11 .ensures) (c .number12 .ensures)
+
+pub summary-spec : {M : Type 1} → statement M
+summary-spec =
+    tie.close
+    (tie.spec
+    number-requires
+    number-requires-2
+    number-requires-3
+    number-requires-4
+    number-requires-5
+    number-requires-6
+    number-requires-7
+    number-requires-8
+    number-requires-9
+    number-requires-10
+    number-requires-11
+    number-requires-12
+    returns)
