@@ -200,6 +200,11 @@ impl List {
         let mut state = open(EXAMPLE, 108);
         (state.summary.trailing, state.summary.dataset) = (0u64.wrapping_sub(8), 100);
         self.edges(&state);
+        for offset in [u64::MAX - 5, u64::MAX - 4, u64::MAX - 3, u64::MAX] {
+            let mut state = bytes_table(0, 0, 5, &[], &[]);
+            state.summary.offset = offset;
+            self.edges(&state);
+        }
         for count in [1 << 62, 1 << 63, u64::MAX, (1 << 62) + 2, (1 << 61) + 2] {
             let mut state = open(EXAMPLE, 108);
             state.summary.captures = count;
