@@ -2,14 +2,14 @@
 use Prim.Native.Nat.{ℕ, zero, suc, _+_, _-_, _*_, _/_, _≤_, _<_, _^_}
 use mathlib.Core.Path.{_≡_, refl, sym, ap, _∙_}
 use mathlib.Core.Bool.{Bool, true, false, cond, _&&_}
-use mathlib.Core.List.{List, [], _∷_, _++_}
+use mathlib.Core.List.{List, [], _∷_, _++_, append-assoc}
 use native.Mathlib.Omega.{arith}
 use native.Mathlib.Numerals.{add-one}
 use native.Mathlib.Nat.{mul-le-mul-right, add-mul}
 use mir.Syntax.{w64}
 use mir.Val.{Fits}
 use lib.ListN.{length, getD, take, drop, set, length-append, length-drop}
-use lib.Seq.{paste-zero, paste-suc, length-paste, length-take-le, getD-drop}
+use lib.Seq.{paste-zero, paste-suc, length-paste, take-paste, drop-paste, length-take-le, getD-drop, take-at, take-add, drop-drop}
 use lib.Dec.{leb, eqb}
 use borrow.Author.Tests.{le-leb, lt-leb, eq-eqb, ne-eqb}
 use Rattle.limits.specs.Limits.{dataset}
@@ -44,6 +44,46 @@ module _ (m : List ℕ) (p : ℕ) (d : List ℕ) (f n j : ℕ) (out : List ℕ) 
 
   pub byte-all : j ≤ n → n ≤ j → out ≡ putBytes m p d f n
   byte-all u v = let z : n ≡ j = omega arith in rw z e
+
+-- ---- chunk by chunk
+-- bytes moved through z, which is as long as the chunk, are the bytes
+pub through : (m : List ℕ) (p : ℕ) (d : List ℕ) (f k : ℕ) (z chunk out : List ℕ) → length z ≡ k → f + k ≤ length d → chunk ≡ putBytes z 0 d f k → out ≡ putBytes m p chunk 0 k
+    → out ≡ putBytes m p d f k
+through m p d f k z chunk out h g e q =
+    q ∙ ap (λ (x : List ℕ). take p m ++ x ++ drop (p + k) m)
+    (ap (take k) e ∙ take-at (take k (drop f d)) (drop (0 + k) z) k (length-take-le k (drop f d) (omega (arith, length-drop f d))))
+
+module _ (m : List ℕ) (p : ℕ) (d : List ℕ) (f n j : ℕ) (out : List ℕ) (e : out ≡ putBytes m p d f j) (x : f + n ≤ length d) (y : p + n ≤ length m) (u : j ≤ n) where
+  pub part-long : length out ≡ length m
+  part-long = ap length e ∙ length-paste m p (drop f d) j (omega arith) (omega (arith, length-drop f d))
+
+  pub part-on : (k : ℕ) → k ≤ n - j → (out′ : List ℕ) → out′ ≡ putBytes out (p + j) d (f + j) k → out′ ≡ putBytes m p d f (j + k)
+  part-on k h out′ q = q ∙ rw (front, back, middle)
+    where
+      front : take (p + j) out ≡ take p m ++ take j (drop f d)
+      front = rw e (take-paste m p (drop f d) j (omega arith) (omega (arith, length-drop f d)))
+
+      back : drop (p + j + k) out ≡ drop (p + (j + k)) m
+      back =
+          let v : p + j + k ≡ p + (j + k) = omega arith in
+          rw e (sym (drop-drop k (p + j) (putBytes m p d f j)) ∙ ap (drop k) (drop-paste m p (drop f d) j (omega arith) (omega (arith, length-drop f d))) ∙ drop-drop k (p + j) m ∙ rw v)
+
+      middle : (take p m ++ take j (drop f d)) ++ take k (drop (f + j) d) ≡ take p m ++ take (j + k) (drop f d)
+      middle = append-assoc (take p m) (take j (drop f d)) (take k (drop (f + j) d)) ∙ ap (λ (l : List ℕ). take p m ++ l) (sym (take-add j k (drop f d) ∙ rw (drop-drop j f d)))
+
+  pub part-room : (k : ℕ) → k ≤ n - j → p + j + k ≤ length out
+  part-room k h = omega (arith, part-long)
+
+  pub end-room : p + j + (n - j) ≤ length out
+  end-room = omega (arith, part-long)
+
+  pub end-is : (out′ : List ℕ) → out′ ≡ putBytes out (p + j) d (f + j) (n - j) → out′ ≡ putBytes m p d f n
+  end-is out′ q =
+      let v : j + (n - j) ≡ n = omega arith in
+      rw v at (part-on (n - j) (omega arith) out′ q)
+
+  pub end-long : (out′ : List ℕ) → out′ ≡ putBytes out (p + j) d (f + j) (n - j) → length out′ ≡ length m
+  end-long out′ q = ap length (end-is out′ q) ∙ length-paste m p (drop f d) n (omega arith) (omega (arith, length-drop f d))
 
 -- ---- the state of the walk that copies
 pub record Copying (l d m : List ℕ) (a b n o w : ℕ) (out : List ℕ) (i h p k : ℕ) : Type 0 where

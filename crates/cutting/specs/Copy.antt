@@ -50,3 +50,7 @@ copyMemory t caps notes d a b m = cond (eqb (copyAnswer t caps notes d a b (leng
 -- n bytes of d from place f on, put into m from place p on
 abbrev pub putBytes : List ℕ → ℕ → List ℕ → ℕ → ℕ → List ℕ
 putBytes m p d f n = take p m ++ take n (drop f d) ++ drop (p + n) m
+
+-- how many bytes the code moves at once
+abbrev pub chunk : ℕ
+chunk = 16384

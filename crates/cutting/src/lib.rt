@@ -8,7 +8,7 @@ ghost use Rattle.table.specs.Rows.{captureWidth, captureNumbers, annotationWidt
 ghost use Rattle.table.specs.Table.{Laid};
 ghost use Rattle.cutting.specs.Pieces.{pieceWidth, pieceNumbers, piece, piecesIn, inside, piecesAnswer, piecesMemory};
 ghost use Rattle.cutting.specs.Cut.{shares, clipCapture, clipAnnotation, cutCaptures, cutAnnotations, cutSummary, refused, cutAnswer, cutCaptureMemory, cutAnnotationMemory};
-ghost use Rattle.cutting.specs.Copy.{bytesIn, copyAnswer, copyMemory, putBytes};
+ghost use Rattle.cutting.specs.Copy.{bytesIn, copyAnswer, copyMemory, putBytes, chunk};
 use table::Annotation;
 use table::Capture;
 use table::Summary;
@@ -357,8 +357,11 @@ pub fn cut(
     no_table(18)
 }
 
-// n bytes of a dataset from place f on, written to out from place p on.
-fn copy_bytes(bytes: &[u8], f: usize, n: usize, out: &mut [u8], p: usize)
+// How many bytes a copy moves at once, through an array of its own: two loops that LLVM makes one memmove.
+const CHUNK: usize = 16384;
+
+// n bytes from place f on, written to out from place p on, one by one.
+fn move_bytes(bytes: &[u8], f: usize, n: usize, out: &mut [u8], p: usize)
     requires { ⌜ (f + n ≤ length (now bytes)) × (p + n ≤ length (now out)) ⌝ }
     ensures { λ r. ⌜ now (out .exit) ≡ putBytes (now (out .entry)) p (now (bytes .entry)) f n ⌝ }
 {
@@ -367,6 +370,29 @@ fn copy_bytes(bytes: &[u8], f: usize, n: usize, out: &mut [u8], p: usize)
         out[p + j] = bytes[f + j];
         j += 1;
     }
+}
+
+// A chunk of bytes from place f on, written to out from place p on.
+fn move_chunk(bytes: &[u8], f: usize, out: &mut [u8], p: usize)
+    requires { ⌜ (f + chunk ≤ length (now bytes)) × (p + chunk ≤ length (now out)) ⌝ }
+    ensures { λ r. ⌜ now (out .exit) ≡ putBytes (now (out .entry)) p (now (bytes .entry)) f chunk ⌝ }
+{
+    let mut buffer = [0u8; CHUNK];
+    move_bytes(bytes, f, CHUNK, &mut buffer, 0);
+    move_bytes(&buffer, 0, CHUNK, out, p);
+}
+
+// n bytes of a dataset from place f on, written to out from place p on.
+fn copy_bytes(bytes: &[u8], f: usize, n: usize, out: &mut [u8], p: usize)
+    requires { ⌜ (f + n ≤ length (now bytes)) × (p + n ≤ length (now out)) ⌝ }
+    ensures { λ r. ⌜ now (out .exit) ≡ putBytes (now (out .entry)) p (now (bytes .entry)) f n ⌝ }
+{
+    let mut j: usize = 0;
+    while n - j >= CHUNK {
+        move_chunk(bytes, f + j, out, p + j);
+        j += CHUNK;
+    }
+    move_bytes(bytes, f + j, n - j, out, p + j);
 }
 
 // The bytes of samples i to e, past h header bytes, written to out from place p on; and where they end there.

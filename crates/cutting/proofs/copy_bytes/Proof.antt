@@ -4,11 +4,13 @@ use lib.ListN.{length, getD, drop}
 use Prim.Native.Nat.{ℕ, _≤_, _<_, _-_, _+_, _*_}
 use mathlib.Core.Path.{_≡_, refl, sym, ap, _∙_}
 use Rattle.cutting.specs.Copy.{putBytes}
-use Rattle.cutting.proofs.CopyCode.{byte-none, byte-on, byte-long, byte-in, byte-all}
+use Rattle.cutting.proofs.CopyCode.{byte-none, part-room, part-on, end-room, end-is, end-long}
 use Rattle.cutting.proofs.copy_bytes.Statement.{statement}
 use Rattle.cutting.proofs.copy_bytes.Tie as tie
 use Rattle.cutting.proofs.copy_bytes.Reads as reads
 use Rattle.cutting.proofs.copy_bytes.Lts as lts
+use Rattle.cutting.proofs.move_bytes.Reads as move-bytes-reads
+use Rattle.cutting.proofs.move_chunk.Reads as move-chunk-reads
 
 abbrev Inv-loop : tie.InvT-loop
 Inv-loop bytes f n out₀ p j₀ out j = (j ≤ n) × (out ≡ putBytes out₀ p bytes f j)
@@ -19,17 +21,17 @@ abbrev μ-loop : tie.MeasureT-loop
 loop-holds : tie.Need-loop-holds Inv-loop μ-loop
 loop-holds c = (search needs, search byte-none)
 
-add-out : tie.Need-add-out Inv-loop μ-loop
-add-out c = search needs
+sub-loop : tie.Need-sub-loop Inv-loop μ-loop
+sub-loop c = search needs
 
-shared-slice-read-out : tie.Need-shared-slice-read-out Inv-loop μ-loop
-shared-slice-read-out c = search needs
+add-move-chunk : tie.Need-add-move-chunk Inv-loop μ-loop
+add-move-chunk c = search needs
 
-add-out-2 : tie.Need-add-out-2 Inv-loop μ-loop
-add-out-2 c = search (needs, byte-in)
+add-move-chunk-2 : tie.Need-add-move-chunk-2 Inv-loop μ-loop
+add-move-chunk-2 c = search needs
 
-slice-write-out : tie.Need-slice-write-out Inv-loop μ-loop
-slice-write-out c = search byte-in
+move-chunk-requires : tie.Need-move-chunk-requires Inv-loop μ-loop
+move-chunk-requires c κs = (search needs, search part-room)
 
 add-j : tie.Need-add-j Inv-loop μ-loop
 add-j c = search needs
@@ -38,13 +40,25 @@ loop-less : tie.Need-loop-less Inv-loop μ-loop
 loop-less c = search needs
 
 loop-again : tie.Need-loop-again Inv-loop μ-loop
-loop-again c = (search needs, search byte-on)
+loop-again c = (search needs, search part-on)
+
+add-move-bytes : tie.Need-add-move-bytes Inv-loop μ-loop
+add-move-bytes c = search needs
+
+sub-move-bytes : tie.Need-sub-move-bytes Inv-loop μ-loop
+sub-move-bytes c = search needs
+
+add-move-bytes-2 : tie.Need-add-move-bytes-2 Inv-loop μ-loop
+add-move-bytes-2 c = search needs
+
+move-bytes-requires : tie.Need-move-bytes-requires Inv-loop μ-loop
+move-bytes-requires c κs = (search needs, search end-room)
 
 same-length : tie.Need-same-length Inv-loop μ-loop
-same-length c = search byte-long
+same-length c = search end-long
 
 returns : tie.Need-returns Inv-loop μ-loop
-returns c = search byte-all
+returns c = search end-is
 
 pub copy-bytes-spec : {M : Type 1} → statement M
 copy-bytes-spec =
@@ -53,12 +67,16 @@ copy-bytes-spec =
     Inv-loop
     μ-loop
     loop-holds
-    add-out
-    shared-slice-read-out
-    add-out-2
-    slice-write-out
+    sub-loop
+    add-move-chunk
+    add-move-chunk-2
+    move-chunk-requires
     add-j
     loop-less
     loop-again
+    add-move-bytes
+    sub-move-bytes
+    add-move-bytes-2
+    move-bytes-requires
     same-length
     returns)

@@ -1,0 +1,41 @@
+use native.Mathlib.Omega.{arith}
+use lib.ListN.{length, getD, drop}
+use Prim.Native.Nat.{ℕ, _≤_, _<_, _-_, _+_, _*_}
+use mathlib.Core.Path.{_≡_, refl, sym, ap, _∙_}
+use Rattle.cutting.proofs.CopyCode.{through}
+use lib.ListN.{replicate, length-replicate}
+use borrow.Author.Needs.{needs}
+use Rattle.cutting.proofs.move_chunk.Statement.{statement}
+use Rattle.cutting.proofs.move_chunk.Tie as tie
+use Rattle.cutting.proofs.move_chunk.Reads as reads
+use Rattle.cutting.proofs.move_chunk.Lts as lts
+use Rattle.cutting.proofs.move_bytes.Reads as move-bytes-reads
+
+slice-aggregate-move-bytes : tie.Need-slice-aggregate-move-bytes
+slice-aggregate-move-bytes c = search needs
+
+move-bytes-requires : tie.Need-move-bytes-requires
+move-bytes-requires c κs = search needs
+
+slice-aggregate-move-bytes-2 : tie.Need-slice-aggregate-move-bytes-2
+slice-aggregate-move-bytes-2 c = search needs
+
+move-bytes-requires-2 : tie.Need-move-bytes-requires-2
+move-bytes-requires-2 c κs = search needs
+
+same-length : tie.Need-same-length
+same-length c = search needs
+
+returns : tie.Need-returns
+returns c = through (c .before .before .before .before .before .before .before .before .before .before .args .out .now) (c .before .before .before .before .before .before .before .before .before .before .args .p) (c .before .before .before .before .before .before .before .before .before .before .args .bytes .now) (c .before .before .before .before .before .before .before .before .before .before .args .f) 16384 (replicate 16384 0) _ _ (length-replicate {A = ℕ} 16384 0) (c .before .before .before .before .before .before .before .before .before .before .pre .0) (c .before .before .before .before .before .before .move-bytes .ensures) (c .before .before .move-bytes2 .ensures)
+
+pub move-chunk-spec : {M : Type 1} → statement M
+move-chunk-spec =
+    tie.close
+    (tie.spec
+    slice-aggregate-move-bytes
+    move-bytes-requires
+    slice-aggregate-move-bytes-2
+    move-bytes-requires-2
+    same-length
+    returns)
