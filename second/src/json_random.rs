@@ -45,7 +45,7 @@ fn random_style(rng: &mut Rng) -> Style {
 }
 
 /// A document by JSON's grammar, whose names may repeat.
-fn random_document(rng: &mut Rng) -> Vec<u8> {
+pub fn random_document(rng: &mut Rng) -> Vec<u8> {
     let mut style = random_style(rng);
     let mut out = Vec::new();
     space(rng, &style, 0, &mut out);
@@ -144,7 +144,8 @@ fn digits(rng: &mut Rng) -> String {
     (0..count).map(|_| char::from(b'0' + rng.below(10) as u8)).collect()
 }
 
-fn good_number(rng: &mut Rng) -> Vec<u8> {
+/// A number by JSON's grammar.
+pub fn good_number(rng: &mut Rng) -> Vec<u8> {
     let sign = rng.pick(&["", "", "-"]);
     let all = digits(rng);
     let whole = match all.trim_start_matches('0') {
@@ -163,7 +164,7 @@ fn good_number(rng: &mut Rng) -> Vec<u8> {
 }
 
 /// Characters with many edges among them.
-fn random_chars(rng: &mut Rng, count: usize) -> Vec<char> {
+pub fn random_chars(rng: &mut Rng, count: usize) -> Vec<char> {
     let edges = "\u{0}\u{1}\n\t\r\u{8}\u{c}\u{1f} \"\\/\u{7f}\u{80}é\u{7ff}\u{800}\u{2028}\u{d7ff}\u{e000}\u{feff}\u{fffd}\u{ffff}\u{10000}\u{1F600}\u{10ffff}{}[]:,";
     let edges: Vec<char> = edges.chars().collect();
     (0..count)
@@ -175,7 +176,7 @@ fn random_chars(rng: &mut Rng, count: usize) -> Vec<char> {
 }
 
 /// One of the spellings of the characters.
-fn spell(rng: &mut Rng, chars: &[char]) -> Vec<u8> {
+pub fn spell(rng: &mut Rng, chars: &[char]) -> Vec<u8> {
     let often = rng.between(1, 6);
     let mut out = Vec::new();
     for &c in chars {
@@ -212,7 +213,8 @@ fn mutated_document(rng: &mut Rng) -> Vec<u8> {
     text
 }
 
-fn mutate(rng: &mut Rng, text: &mut Vec<u8>) {
+/// One small change.
+pub fn mutate(rng: &mut Rng, text: &mut Vec<u8>) {
     let at = rng.below(text.len() + 1);
     let byte = random_byte(rng);
     match rng.below(7) {
@@ -333,7 +335,7 @@ fn wrapped(rng: &mut Rng, mut text: Vec<u8>) -> Vec<u8> {
 }
 
 /// The characters with one of them changed, added or left out.
-fn change_one(rng: &mut Rng, chars: &[char]) -> Vec<char> {
+pub fn change_one(rng: &mut Rng, chars: &[char]) -> Vec<char> {
     let mut other = chars.to_vec();
     let added = random_chars(rng, 1)[0];
     if other.is_empty() {

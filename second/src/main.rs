@@ -1,12 +1,12 @@
 //! Commands of the second program.
 
 use second::frames::{read_frames, write_frames, Case};
-use second::{json_answers, json_cases, listing, table_answers, table_cases};
+use second::{field_answers, field_cases, json_answers, json_cases, listing, listing_answers, listing_cases};
+use second::{reading_answers, reading_cases, steps_answers, steps_cases, table_answers, table_cases};
 use std::io::{Read, Write};
 use std::process::ExitCode;
 
-const USAGE: &str =
-    "usage: second json-cases SEED COUNT | json-answers | table-cases SEED COUNT | table-answers | program";
+const USAGE: &str = "usage: second KIND-cases SEED COUNT | KIND-answers | program, KIND being json, table, field, reading, listing or steps";
 
 fn main() -> ExitCode {
     let args: Vec<String> = std::env::args().skip(1).collect();
@@ -16,6 +16,14 @@ fn main() -> ExitCode {
         ["json-answers"] => write_answers(json_answers::answer),
         ["table-cases", seed, count] => write_cases(table_cases::table_cases, seed, count),
         ["table-answers"] => write_answers(table_answers::answer),
+        ["field-cases", seed, count] => write_cases(field_cases::field_cases, seed, count),
+        ["field-answers"] => write_answers(field_answers::answer),
+        ["reading-cases", seed, count] => write_cases(reading_cases::reading_cases, seed, count),
+        ["reading-answers"] => write_answers(reading_answers::answer),
+        ["listing-cases", seed, count] => write_cases(listing_cases::listing_cases, seed, count),
+        ["listing-answers"] => write_answers(listing_answers::answer),
+        ["steps-cases", seed, count] => write_cases(steps_cases::steps_cases, seed, count),
+        ["steps-answers"] => write_answers(steps_answers::answer),
         ["program"] => input().and_then(|bytes| output(&listing::program(&bytes))),
         _ => Err(USAGE.to_string()),
     };

@@ -3,6 +3,7 @@
 use crate::frames::{checksum, Case};
 use crate::table::{copy, cut, locate, pieces, well_formed, Table};
 use crate::table_case::{summary_numbers, TableCase, COPY, CUT, LOCATE, PIECES};
+use crate::words::{byte_memory, dataset_bytes, memory};
 
 /// The answer line of a case, without its line feed; none for a broken case.
 pub fn answer(case: &Case) -> Option<String> {
@@ -35,16 +36,11 @@ fn results(case: &TableCase) -> (Vec<u64>, u64) {
             (summary_numbers(&summary).to_vec(), checksum(captures))
         }
         COPY => {
-            let dataset: Vec<u8> = (0..sizes[0]).map(|k| ((k * 7 + 3) % 256) as u8).collect();
-            let mut output: Vec<u8> = memory(sizes[1]).iter().map(|&x| x as u8).collect();
+            let dataset = dataset_bytes(sizes[0]);
+            let mut output = byte_memory(sizes[1]);
             let written = copy(&table, &dataset, a, b, &mut output);
             (vec![written.refusal, written.count], checksum(output.iter().map(|&x| u64::from(x))))
         }
         _ => (vec![u64::from(well_formed(&table))], checksum([])),
     }
-}
-
-/// What lent output memory holds beforehand.
-fn memory(size: u64) -> Vec<u64> {
-    (0..size).map(|k| (200 + k) % 251).collect()
 }

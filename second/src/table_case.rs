@@ -110,7 +110,7 @@ pub fn summary_numbers(s: &Summary) -> [u64; 12] {
 }
 
 /// The summary of twelve numbers.
-fn summary_of(x: &[u64]) -> Summary {
+pub fn summary_of(x: &[u64]) -> Summary {
     Summary {
         refusal: x[0],
         code: x[1],

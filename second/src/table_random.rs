@@ -60,15 +60,15 @@ pub fn case_of(operation: u64, state: &State, rng: &mut Rng) -> TableCase {
 }
 
 /// How much a range needs: pieces, rows and bytes.
-struct Needs {
-    pieces: u64,
-    captures: u64,
-    annotations: u64,
-    bytes: u64,
+pub struct Needs {
+    pub pieces: u64,
+    pub captures: u64,
+    pub annotations: u64,
+    pub bytes: u64,
 }
 
 /// The needs of a range; none where it is refused.
-fn needs(table: &Table, a: u64, b: u64) -> Needs {
+pub fn needs(table: &Table, a: u64, b: u64) -> Needs {
     let mut lent = vec![0; 4 * NUMBERS_MAX as usize];
     let mut other = lent.clone();
     let pieces = pieces(table, a, b, &mut lent).count;
@@ -113,7 +113,7 @@ fn byte_room(bytes: u64, rng: &mut Rng) -> u64 {
 }
 
 /// An index worth asking: the edges of the recording and of its rows, one beside, any.
-fn point(state: &State, rng: &mut Rng) -> u64 {
+pub fn point(state: &State, rng: &mut Rng) -> u64 {
     let s = &state.summary;
     let end = s.offset.wrapping_add(s.samples);
     let mut edges = vec![s.offset, end];
@@ -135,7 +135,7 @@ fn point(state: &State, rng: &mut Rng) -> u64 {
 }
 
 /// A range inside the recording, as far as two tries find one.
-fn range_inside(state: &State, rng: &mut Rng) -> (u64, u64) {
+pub fn range_inside(state: &State, rng: &mut Rng) -> (u64, u64) {
     let s = &state.summary;
     let end = s.offset.saturating_add(s.samples);
     let mut next = || point(state, rng).clamp(s.offset, end);
@@ -172,7 +172,7 @@ fn random_table(rng: &mut Rng) -> State {
 }
 
 /// Ascending starts in the recording, its end included, some of them equal.
-fn starts(count: usize, offset: u64, samples: u64, rng: &mut Rng) -> Vec<u64> {
+pub fn starts(count: usize, offset: u64, samples: u64, rng: &mut Rng) -> Vec<u64> {
     let mut list: Vec<u64> = Vec::new();
     for _ in 0..count {
         let start = match rng.below(8) {

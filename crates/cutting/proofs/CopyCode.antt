@@ -1,31 +1,31 @@
 -- Laws that the proofs of the copy's code cite.
-use Prim.Native.Nat.{ℕ, zero, suc, _+_, _-_, _*_, _/_, _≤_, _<_, _^_}
+use Prim.Native.Nat.{ℕ, _+_, _-_, _*_, _≤_, _<_}
 use mathlib.Core.Path.{_≡_, refl, sym, ap, _∙_}
-use mathlib.Core.Bool.{Bool, true, false, cond, _&&_}
-use mathlib.Core.List.{List, [], _∷_, _++_, append-assoc}
+use mathlib.Core.Bool.{Bool, true, false}
+use mathlib.Core.List.{List, _++_, append-assoc}
 use native.Mathlib.Omega.{arith}
 use native.Mathlib.Numerals.{add-one}
-use native.Mathlib.Nat.{mul-le-mul-right, add-mul}
+use native.Mathlib.Nat.{mul-le-mul-right}
 use mir.Syntax.{w64}
 use mir.Val.{Fits}
-use lib.ListN.{length, getD, take, drop, set, length-append, length-drop}
+use lib.ListN.{length, getD, take, drop, set, length-drop}
 use lib.Seq.{paste-zero, paste-suc, length-paste, take-paste, drop-paste, length-take-le, getD-drop, take-at, take-add, drop-drop}
-use lib.Dec.{leb, eqb}
 use borrow.Author.Tests.{le-leb, lt-leb, eq-eqb, ne-eqb}
-use Rattle.limits.specs.Limits.{dataset}
 use Rattle.table.specs.declared.Capture.{Capture}
 use Rattle.table.specs.declared.Summary.{Summary}
 use Rattle.table.specs.Memory.{written}
-use Rattle.table.specs.Rows.{captureAt, rest, captures, capturesOf}
-use Rattle.table.specs.Samples.{headerSum}
+use Rattle.table.specs.Rows.{captureAt, rest, captures}
+use Rattle.table.specs.Samples.{place}
 use Rattle.table.specs.Table.{wellFormed, Laid}
 use Rattle.table.specs.Locate.{placeIn}
 use Rattle.table.proofs.TableLaws.{Formed, formed-of}
 use Rattle.table.proofs.Filling.{Filling, fill-none, fill-many, fill-room, fill-all}
+use Rattle.cutting.specs.declared.Run.{Run}
 use Rattle.cutting.specs.Pieces.{inside, wrote}
-use Rattle.cutting.specs.Copy.{bytesIn, bytesOf, copyAnswer, copyMemory, putBytes}
-use Rattle.cutting.proofs.Walk.{walk}
-use Rattle.cutting.proofs.PiecesLaws.{Inside, within, walked, Walking, walk-begin, walk-stay, walk-add, walk-go, at-past, at-in, at-bare, at-break, at-end, at-none, walk-fits}
+use Rattle.cutting.specs.Run.{runFrom}
+use Rattle.cutting.specs.Copy.{samplesFrom, bytesIn, bytesOf, copyAnswer, copyMemory, putBytes}
+use Rattle.cutting.proofs.Walk.{Walking}
+use Rattle.cutting.proofs.PiecesLaws.{Inside, within, walk-begin, found, run-inside}
 use Rattle.cutting.proofs.SampleLaws.{bytes-runs, length-bytes}
 
 -- ---- byte by byte
@@ -46,10 +46,9 @@ module _ (m : List ℕ) (p : ℕ) (d : List ℕ) (f n j : ℕ) (out : List ℕ) 
   byte-all u v = let z : n ≡ j = omega arith in rw z e
 
 -- ---- chunk by chunk
--- bytes moved through z, which is as long as the chunk, are the bytes
-pub through : (m : List ℕ) (p : ℕ) (d : List ℕ) (f k : ℕ) (z chunk out : List ℕ) → length z ≡ k → f + k ≤ length d → chunk ≡ putBytes z 0 d f k → out ≡ putBytes m p chunk 0 k
-    → out ≡ putBytes m p d f k
-through m p d f k z chunk out h g e q =
+-- k bytes moved through the front of z are the bytes
+pub through : (m : List ℕ) (p : ℕ) (d : List ℕ) (f k : ℕ) (z z′ out : List ℕ) → f + k ≤ length d → z′ ≡ putBytes z 0 d f k → out ≡ putBytes m p z′ 0 k → out ≡ putBytes m p d f k
+through m p d f k z z′ out g e q =
     q ∙ ap (λ (x : List ℕ). take p m ++ x ++ drop (p + k) m)
     (ap (take k) e ∙ take-at (take k (drop f d)) (drop (0 + k) z) k (length-take-le k (drop f d) (omega (arith, length-drop f d))))
 
@@ -86,109 +85,49 @@ module _ (m : List ℕ) (p : ℕ) (d : List ℕ) (f n j : ℕ) (out : List ℕ) 
   end-long out′ q = ap length (end-is out′ q) ∙ length-paste m p (drop f d) n (omega arith) (omega (arith, length-drop f d))
 
 -- ---- the state of the walk that copies
+abbrev samples : List ℕ → List ℕ → ℕ → ℕ → ℕ → ℕ → ℕ → List ℕ
+samples l d n o w i b = samplesFrom (place o w (captures l n)) w d (b - i) i
+
 pub record Copying (l d m : List ℕ) (a b n o w : ℕ) (out : List ℕ) (i h p k : ℕ) : Type 0 where
-  pub on : Walking l b n o i h k
-  pub fill : Filling (bytesOf d (walk o w b a 0 (captures l n))) m out p
-  pub left : drop p (bytesOf d (walk o w b a 0 (captures l n))) ≡ bytesOf d (walk o w b i h (rest (captureAt l) n k))
+  pub on : Walking l a b n i h k
+  pub fill : Filling (samples l d n o w a b) m out p
+  pub left : drop p (samples l d n o w a b) ≡ samples l d n o w i b
 
-run-fits : (o w i e h N H D : ℕ) → o ≤ i → i ≤ e → e ≤ o + N → h ≤ H → H + N * w ≤ D → (i - o) * w + h + (e - i) * w ≤ D
-run-fits o w i e h N H D p q r s z =
-    let k : (i - o) + (e - i) ≤ N = omega arith in
-    omega (arith, mul-le-mul-right w k, add-mul (i - o) (e - i) w)
-
-module _ (l d m : List ℕ) (a b n o w : ℕ) (out : List ℕ) (i h p k : ℕ) (x : Capture) (e : x ≡ captureAt l k) (lt : k < n) (S : Copying l d m a b n o w out i h p k) where
-  pub copy-past : b ≤ x .start → Copying l d m a b n o w out i h p (k + 1)
-  copy-past t1 = record { on = walk-stay l b n o i h k x e lt (S .on); fill = S .fill; left = S .left ∙ ap (bytesOf d) (at-past l b n o i h k x e lt (S .on) w t1) }
-
-  pub copy-in : x .start < b → x .start ≤ i → Copying l d m a b n o w out i (h + x .header) p (k + 1)
-  copy-in t1 t2 = record { on = walk-add l b n o i h k x e lt (S .on); fill = S .fill; left = S .left ∙ ap (bytesOf d) (at-in l b n o i h k x e lt (S .on) w t1 t2) }
-
-  pub copy-bare : x .start < b → i < x .start → x .header ≡ 0 → Copying l d m a b n o w out i h p (k + 1)
-  copy-bare t1 t2 t3 = record { on = walk-stay l b n o i h k x e lt (S .on); fill = S .fill; left = S .left ∙ ap (bytesOf d) (at-bare l b n o i h k x e lt (S .on) w t1 t2 t3) }
-
-  module _ (t1 : x .start < b) (t2 : i < x .start) (t3 : x .header ≡ 0 → ⊥) (z : (i - o) * w + h + (x .start - i) * w ≤ length d)
-      (r : length (bytesOf d (walk o w b a 0 (captures l n))) ≤ length m) where
-    next : drop p (bytesOf d (walk o w b a 0 (captures l n)))
-        ≡ take ((x .start - i) * w) (drop ((i - o) * w + h) d) ++ bytesOf d (walk o w b (x .start) (h + x .header) (rest (captureAt l) n (k + 1)))
-    unfolding bytesOf
-    next = S .left ∙ ap (bytesOf d) (at-break l b n o i h k x e lt (S .on) w t1 t2 t3)
-
-    long : length (take ((x .start - i) * w) (drop ((i - o) * w + h) d)) ≡ (x .start - i) * w
-    long = length-take-le _ _ (omega (arith, length-drop ((i - o) * w + h) d))
-
-    run-break : (out′ : List ℕ) (p′ : ℕ) → p′ ≡ p + (x .start - i) * w → out′ ≡ putBytes out p d ((i - o) * w + h) ((x .start - i) * w)
-        → Copying l d m a b n o w out′ (x .start) (h + x .header) p′ (k + 1)
-    run-break out′ p′ y q =
-        let f = fill-many (bytesOf d (walk o w b a 0 (captures l n))) m out p _ _ _ r next long (S .fill) out′ q in
-        record { on = walk-go l b n o i h k x e lt (S .on) t1 t2; fill = rw y (f .0); left = rw y (f .1) }
-
-    run-room : p + (x .start - i) * w ≤ length out
-    run-room = fill-room (bytesOf d (walk o w b a 0 (captures l n))) m out p ((x .start - i) * w) (take ((x .start - i) * w) (drop ((i - o) * w + h) d))
-        (bytesOf d (walk o w b (x .start) (h + x .header) (rest (captureAt l) n (k + 1)))) r next long (S .fill)
-
--- ---- the same of a table
 module _ (t : Summary) (l d m : List ℕ) (a b : ℕ) (L : Laid t l) (g : length d ≡ t .size) (f : inside t a b ≡ true) where
   pub copy-begin : Copying l d m a b (t .captures) (t .offset) (t .width) m a 0 0 0
-  copy-begin = record { on = walk-begin t l a b f; fill = fill-none _ m; left = refl }
-
-  walk-bytes : bytesOf d (walk (t .offset) (t .width) b a 0 (capturesOf t l)) ≡ bytesIn t l d a b
-  walk-bytes = ap (bytesOf d) (walked t l a b L f) ∙ bytes-runs (placeIn t l) (t .width) d (b - a) a
-
-  small : length (bytesIn t l d a b) ≤ length m → length (bytesOf d (walk (t .offset) (t .width) b a 0 (capturesOf t l))) ≤ length m
-  small r = rw walk-bytes r
+  copy-begin = record { on = walk-begin t l a b L f; fill = fill-none _ m; left = refl }
 
   module _ (out : List ℕ) (i h p k : ℕ) (S : Copying l d m a b (t .captures) (t .offset) (t .width) out i h p k) where
-    -- a run from i to s lies in the dataset
-    run : (s : ℕ) → i ≤ s → s ≤ b → (i - t .offset) * t .width + h + (s - i) * t .width ≤ length d
-    run s y z =
-        let n = within t a b f in
-        run-fits (t .offset) (t .width) i s h (t .samples) (headerSum (capturesOf t l)) (length d) (S .on .low) y (omega arith) (omega (arith, S .on)) (omega (arith, L .total))
+    pub copy-done : b ≤ i → out ≡ written (bytesIn t l d a b) m
+    unfolding samplesFrom
+    copy-done z =
+        let e : b - i ≡ 0 = omega arith in
+        fill-all (bytesIn t l d a b) m out p (S .left ∙ rw e) (S .fill)
 
-    pub run-end : i < b → (i - t .offset) * t .width + h + (b - i) * t .width ≤ length d
-    run-end z = run b (omega arith) (omega arith)
+    module _ (r : Run) (e : r ≡ runFrom b i h k (rest (captureAt l) (t .captures) k)) (z : i < b) where
+      pub run-in : (i - t .offset) * t .width + r .headers + (r .end - i) * t .width ≤ length d
+      run-in = omega (arith, run-inside t l a b L f i h k (S .on) r e z)
 
-    module _ (x : Capture) (v : x ≡ captureAt l k) (lt : k < t .captures) where
-      pub copy-head : Fits w64 (h + x .header)
-      copy-head = walk-fits t l b (t .offset) i h k x v lt L (S .on)
+      module _ (y : length (bytesIn t l d a b) ≤ length m) where
+        next : drop p (bytesIn t l d a b)
+            ≡ take ((r .end - i) * t .width) (drop ((i - t .offset) * t .width + r .headers) d) ++ samples l d (t .captures) (t .offset) (t .width) (r .end) b
+        unfolding bytesOf
+        next =
+            S .left ∙ sym (bytes-runs (placeIn t l) (t .width) d (b - i) i) ∙ ap (bytesOf d) (found t l a b L f i h k (S .on) r e z .next)
+            ∙ ap (λ (x : List ℕ). take ((r .end - i) * t .width) (drop ((i - t .offset) * t .width + r .headers) d) ++ x) (bytes-runs (placeIn t l) (t .width) d (b - r .end) (r .end))
 
-      module _ (t1 : x .start < b) (t2 : i < x .start) where
-        pub run-in : (i - t .offset) * t .width + h + (x .start - i) * t .width ≤ length d
-        run-in = run (x .start) (omega arith) (omega arith)
+        long : length (take ((r .end - i) * t .width) (drop ((i - t .offset) * t .width + r .headers) d)) ≡ (r .end - i) * t .width
+        long = length-take-le _ _ (omega (arith, run-in, length-drop ((i - t .offset) * t .width + r .headers) d))
 
-        module _ (t3 : x .header ≡ 0 → ⊥) (r : length (bytesIn t l d a b) ≤ length m) where
-          pub room-in : p + (x .start - i) * t .width ≤ length out
-          room-in = run-room l d m a b (t .captures) (t .offset) (t .width) out i h p k x v lt S t1 t2 t3 run-in (small r)
+        pub run-room : p + (r .end - i) * t .width ≤ length out
+        run-room = fill-room (bytesIn t l d a b) m out p ((r .end - i) * t .width) (take ((r .end - i) * t .width) (drop ((i - t .offset) * t .width + r .headers) d))
+            (samples l d (t .captures) (t .offset) (t .width) (r .end) b) y next long (S .fill)
 
-          pub copy-break : (h′ p′ : ℕ) (out′ : List ℕ) → h′ ≡ h + x .header → p′ ≡ p + (x .start - i) * t .width
-              → out′ ≡ putBytes out p d ((i - t .offset) * t .width + h) ((x .start - i) * t .width)
-              → Copying l d m a b (t .captures) (t .offset) (t .width) out′ (x .start) h′ p′ (k + 1)
-          copy-break h′ p′ out′ y z q = rw y (run-break l d m a b (t .captures) (t .offset) (t .width) out i h p k x v lt S t1 t2 t3 run-in (small r) out′ p′ z q)
-
-    module _ (n : t .captures ≤ k) where
-      last : i < b → drop p (bytesOf d (walk (t .offset) (t .width) b a 0 (capturesOf t l))) ≡ take ((b - i) * t .width) (drop ((i - t .offset) * t .width + h) d) ++ []
-      unfolding bytesOf
-      last z = S .left ∙ ap (bytesOf d) (at-end l b (t .captures) (t .offset) (t .width) i h k n z)
-
-      last-long : i < b → length (take ((b - i) * t .width) (drop ((i - t .offset) * t .width + h) d)) ≡ (b - i) * t .width
-      last-long z = length-take-le _ _ (omega (arith, run b (omega arith) (omega arith), length-drop ((i - t .offset) * t .width + h) d))
-
-      pub room-last : i < b → length (bytesIn t l d a b) ≤ length m → p + (b - i) * t .width ≤ length out
-      room-last z r = fill-room (bytesOf d (walk (t .offset) (t .width) b a 0 (capturesOf t l))) m out p ((b - i) * t .width)
-          (take ((b - i) * t .width) (drop ((i - t .offset) * t .width + h) d)) [] (small r) (last z) (last-long z) (S .fill)
-
-      done : (out′ : List ℕ) (p′ : ℕ) → drop p′ (bytesOf d (walk (t .offset) (t .width) b a 0 (capturesOf t l))) ≡ []
-          → Filling (bytesOf d (walk (t .offset) (t .width) b a 0 (capturesOf t l))) m out′ p′ → out′ ≡ written (bytesIn t l d a b) m
-      done out′ p′ x F = rw (← walk-bytes) (fill-all (bytesOf d (walk (t .offset) (t .width) b a 0 (capturesOf t l))) m out′ p′ x F)
-
-      pub copy-last : i < b → length (bytesIn t l d a b) ≤ length m → (out′ : List ℕ) → out′ ≡ putBytes out p d ((i - t .offset) * t .width + h) ((b - i) * t .width)
-          → out′ ≡ written (bytesIn t l d a b) m
-      copy-last z r out′ q =
-          let f = fill-many (bytesOf d (walk (t .offset) (t .width) b a 0 (capturesOf t l))) m out p _ _ _ (small r) (last z) (last-long z) (S .fill) out′ q in
-          done out′ _ (f .1) (f .0)
-
-      pub copy-none : b ≤ i → out ≡ written (bytesIn t l d a b) m
-      unfolding bytesOf
-      copy-none z = done out p (S .left ∙ ap (bytesOf d) (at-none l b (t .captures) (t .offset) (t .width) i h k n z)) (S .fill)
+        pub copy-on : (p′ : ℕ) (out′ : List ℕ) → p′ ≡ p + (r .end - i) * t .width → out′ ≡ putBytes out p d ((i - t .offset) * t .width + r .headers) ((r .end - i) * t .width)
+            → Copying l d m a b (t .captures) (t .offset) (t .width) out′ (r .end) (r .headers) p′ (r .row)
+        copy-on p′ out′ u q =
+            let F = fill-many (bytesIn t l d a b) m out p _ _ _ y next long (S .fill) out′ q in
+            record { on = found t l a b L f i h k (S .on) r e z .on; fill = rw u (F .0); left = rw u (F .1) }
 
 -- ---- the answer, and the memory after it
 module _ (t : Summary) (l ns d : List ℕ) (a b : ℕ) (m : List ℕ) (p : Bool) (e : p ≡ wellFormed t l ns) where

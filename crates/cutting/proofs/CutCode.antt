@@ -16,10 +16,10 @@ use Rattle.table.specs.declared.Annotation.{Annotation}
 use Rattle.table.specs.declared.Summary.{Summary}
 use Rattle.table.specs.Memory.{written}
 use Rattle.table.specs.Rows.{captureNumbers, annotationNumbers, flat, capturesOf, annotationsOf}
-use Rattle.table.specs.Table.{wellFormed, Laid}
+use Rattle.table.specs.Table.{wellFormed, Laid, refused}
 use Rattle.table.proofs.TableLaws.{Formed, Numbers, formed-of}
 use Rattle.cutting.specs.Pieces.{inside}
-use Rattle.cutting.specs.Cut.{shares, clipCapture, clipAnnotation, cutCaptures, cutAnnotations, cutSummary, cut, cutIn, refused, cutAnswer, cutCaptureMemory, cutAnnotationMemory}
+use Rattle.cutting.specs.Cut.{shares, clipCapture, clipAnnotation, cutCaptures, cutAnnotations, cutSummary, cut, cutIn, cutAnswer, cutCaptureMemory, cutAnnotationMemory}
 use Rattle.cutting.proofs.PiecesLaws.{Inside, within}
 
 pub shares-is : (a b s e x y : ℕ) → x ≡ max a s → y ≡ min b e → ltb x y ≡ shares a b s e

@@ -19,11 +19,11 @@ use Rattle.table.specs.Samples.{headerSum, headersTo, place}
 use Rattle.table.specs.Locate.{placeIn}
 use Rattle.table.specs.Table.{nextStart, captureOk, capturesOk, textOk, textsOk, annotationOk, annotationsOk, formatOk, wellFormed, Laid}
 use Rattle.table.proofs.Bools.{and-left, and-right}
-use Rattle.table.proofs.RowLaws.{captures-back, annotations-back}
+use Rattle.table.proofs.RowLaws.{length-flat, captures-back, annotations-back}
 use Rattle.table.proofs.TableLaws.{Formed, Numbers, formed, well-formed}
 use Rattle.cutting.specs.Pieces.{inside}
 use Rattle.cutting.specs.Cut.{sharesCapture, sharesAnnotation, clipCapture, clipAnnotation, kept, cutCaptures, cutAnnotations, cutSummary, Table, cut, tableOf, cutIn}
-use Rattle.cutting.proofs.KeepLaws.{kept-yes, kept-no, kept-kept, length-flat}
+use Rattle.cutting.proofs.KeepLaws.{kept-yes, kept-no, kept-kept}
 use Rattle.cutting.specs.Copy.{samplesFrom, bytesIn}
 use Rattle.cutting.proofs.PiecesLaws.{Inside, within}
 use Rattle.cutting.proofs.SampleLaws.{copy-from, whole}

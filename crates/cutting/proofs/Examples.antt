@@ -8,10 +8,10 @@ use Rattle.table.specs.declared.Summary.{Summary}
 use Rattle.table.specs.Memory.{row}
 use Rattle.table.specs.Rows.{captureAt, annotationAt, rowsFrom, flat, captureNumbers, annotationNumbers}
 use Rattle.table.specs.Samples.{headerSum, headersTo, place}
-use Rattle.table.specs.Table.{nextStart, captureOk, capturesOk, textOk, textsOk, annotationOk, annotationsOk, formatOk, countsOk, sizesOk, rowsOk, wellFormed}
+use Rattle.table.specs.Table.{nextStart, captureOk, capturesOk, textOk, textsOk, annotationOk, annotationsOk, formatOk, countsOk, sizesOk, rowsOk, wellFormed, refused}
 use Rattle.table.specs.Locate.{located, isSample, locateAnswer}
 use Rattle.cutting.specs.Pieces.{pieceNumbers, put, runs, piecesIn, inside, wrote, piecesAnswer}
-use Rattle.cutting.specs.Cut.{kept, cutSummary, cut, cutIn, cutAnswer, refused}
+use Rattle.cutting.specs.Cut.{kept, cutSummary, cut, cutIn, cutAnswer}
 
 -- code, offset, trailing, samples, size, captures and annotations; one channel of w bytes
 pub table : ℕ → ℕ → ℕ → ℕ → ℕ → ℕ → ℕ → ℕ → Summary

@@ -9,10 +9,10 @@ use mir.Syntax.{w64}
 use mir.Val.{Fits}
 use lib.Dec.{leb}
 use borrow.Author.Tests.{leb-true}
-use lib.ListN.{length, take, drop, length-append, length-drop}
+use lib.ListN.{length, drop}
 use Rattle.table.specs.Memory.{written, putRow}
 use Rattle.table.specs.Rows.{rest, flat}
-use Rattle.table.proofs.RowLaws.{rest-at, rest-none}
+use Rattle.table.proofs.RowLaws.{rest-at, rest-none, length-flat}
 use Rattle.table.proofs.Filling.{Filling, fill-none, fill-row, fill-room, fill-all}
 use Rattle.cutting.specs.Cut.{kept}
 
@@ -75,14 +75,6 @@ module _ {A : Type 0} (at : ℕ → A) (f : A → Bool) (n : ℕ) where
           let z : length (kept f (λ r. r) (rest at n k)) ≡ length (kept f (λ r. r) (rest at n (k + 1)))
           = ap (λ (rs : List A). length (kept f (λ r. r) rs)) (rest-at at n k x e lt) ∙ ap length (kept-no f (λ r. r) x _ (sym u ∙ h)) in
           record { more = omega arith; under = omega (arith, S .under); sum = omega (arith, S .sum) }
-
-pub length-flat : {A : Type 0} (nums : A → List ℕ) (w : ℕ) → ((r : A) → length (nums r) ≡ w) → (rs : List A) → length (flat nums rs) ≡ w * length rs
-unfolding flat
-length-flat nums w long [] = omega arith
-length-flat nums w long (r ∷ t) =
-    let h = length-flat nums w long t in
-    let z : w * suc (length t) ≡ w + w * length t = omega arith in
-    omega (arith, long r, length-append (nums r) (flat nums t))
 
 -- ---- writing: c rows of w numbers are written, and k of n rows are read
 pub record Keeping {A : Type 0} (at : ℕ → A) (f : A → Bool) (g : A → A) (nums : A → List ℕ) (w : ℕ) (m : List ℕ) (n : ℕ) (out : List ℕ) (c k : ℕ) : Type 0 where

@@ -15,11 +15,11 @@ use Rattle.table.specs.Memory.{written}
 use Rattle.table.specs.Rows.{captureNumbers, annotationNumbers, flat, capturesOf, annotationsOf}
 use Rattle.table.specs.Samples.{place}
 use Rattle.table.specs.Locate.{placeIn}
-use Rattle.table.specs.Table.{wellFormed}
+use Rattle.table.specs.Table.{wellFormed, refused}
 use Rattle.table.proofs.Bools.{and-left, and-right}
 use Rattle.table.proofs.TableLaws.{Formed, formed, well-formed}
 use Rattle.cutting.specs.Pieces.{piecesIn, followed, inside}
-use Rattle.cutting.specs.Cut.{cutCaptures, cutAnnotations, cut, cutSummary, Table, tableOf, cutIn, refused, cutAnswer, cutCaptureMemory, cutAnnotationMemory}
+use Rattle.cutting.specs.Cut.{cutCaptures, cutAnnotations, cut, cutSummary, Table, tableOf, cutIn, cutAnswer, cutCaptureMemory, cutAnnotationMemory}
 use Rattle.cutting.specs.Copy.{sampleFrom, sampleIn, samplesFrom, bytesIn, bytesOf}
 use Rattle.cutting.specs.Bytes.{Among, OfSample, Member, OfHeader, Ascending}
 use Rattle.cutting.proofs.JoinLaws.{runs-followed}

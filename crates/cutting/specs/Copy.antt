@@ -51,6 +51,6 @@ copyMemory t caps notes d a b m = cond (eqb (copyAnswer t caps notes d a b (leng
 abbrev pub putBytes : List ℕ → ℕ → List ℕ → ℕ → ℕ → List ℕ
 putBytes m p d f n = take p m ++ take n (drop f d) ++ drop (p + n) m
 
--- how many bytes the code moves at once
+-- how many bytes the code moves at once, at most
 abbrev pub chunk : ℕ
 chunk = 16384

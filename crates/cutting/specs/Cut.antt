@@ -9,7 +9,7 @@ use Rattle.table.specs.declared.Annotation.{Annotation}
 use Rattle.table.specs.declared.Summary.{Summary}
 use Rattle.table.specs.Memory.{written}
 use Rattle.table.specs.Rows.{captureWidth, captureNumbers, annotationWidth, annotationNumbers, flat, capturesOf, annotationsOf}
-use Rattle.table.specs.Table.{wellFormed}
+use Rattle.table.specs.Table.{wellFormed, refused}
 use Rattle.cutting.specs.Pieces.{inside}
 
 -- samples s to e "share a sample with [a, b)"
@@ -77,10 +77,6 @@ tableOf t caps notes = record { summary = t; captures = capturesOf t caps; annot
 
 abbrev pub cutIn : Summary → List ℕ → List ℕ → ℕ → ℕ → Table
 cutIn t caps notes a b = cut a b (tableOf t caps notes)
-
--- "A refusal gives that number, 0 in every other number of the answer"
-abbrev pub refused : ℕ → Summary
-refused n = record { refusal = n; datatype = 0; channels = 0; width = 0; offset = 0; trailing = 0; samples = 0; size = 0; captures = 0; annotations = 0; rate = 0; ratelen = 0 }
 
 -- x and y: how many numbers the memories for captures and for annotations hold
 unfoldable pub cutAnswer : Summary → List ℕ → List ℕ → ℕ → ℕ → ℕ → ℕ → Summary

@@ -4,19 +4,29 @@ ghost use mathlib.Core.Bool.{true, false};
 ghost use Prim.Native.Nat.{ℕ, _+_, _-_, _*_, _^_, _<_, _≤_, min, max};
 ghost use lib.ListN.{length};
 ghost use Rattle.table.specs.Memory.{written, putRow};
-ghost use Rattle.table.specs.Rows.{captureWidth, captureNumbers, annotationWidth, annotationNumbers, flat, capturesOf, annotationsOf};
+ghost use Rattle.table.specs.Rows.{captureAt, captureWidth, captureNumbers, annotationWidth, annotationNumbers, rest, flat, capturesOf, annotationsOf};
+ghost use Rattle.table.specs.Samples.{headerSum};
 ghost use Rattle.table.specs.Table.{Laid};
 ghost use Rattle.cutting.specs.Pieces.{pieceWidth, pieceNumbers, piece, piecesIn, inside, piecesAnswer, piecesMemory};
-ghost use Rattle.cutting.specs.Cut.{shares, clipCapture, clipAnnotation, cutCaptures, cutAnnotations, cutSummary, refused, cutAnswer, cutCaptureMemory, cutAnnotationMemory};
+ghost use Rattle.cutting.specs.Run.{breaks, runFrom};
+ghost use Rattle.cutting.specs.Cut.{shares, clipCapture, clipAnnotation, cutCaptures, cutAnnotations, cutSummary, cutAnswer, cutCaptureMemory, cutAnnotationMemory};
 ghost use Rattle.cutting.specs.Copy.{bytesIn, copyAnswer, copyMemory, putBytes, chunk};
 use table::Annotation;
 use table::Capture;
 use table::Summary;
+use table::no_table;
 
 // How many pieces or bytes were written, or why none.
 pub struct Wrote {
     pub refusal: u64,
     pub count: u64,
+}
+
+// Samples whose bytes follow each other: the header bytes before them, the sample at which they end, and the first row left then.
+struct Run {
+    headers: u64,
+    end: u64,
+    row: usize,
 }
 
 // Samples a to b are in the recording.
@@ -33,6 +43,49 @@ pub(crate) fn is_inside(t: Summary, a: u64, b: u64) -> bool
     b <= t.offset + t.samples
 }
 
+// The header of x stands between sample i and a later one.
+fn breaks_run(x: Capture, i: u64) -> bool
+    ensures { λ r. ⌜ r ≡ breaks i x ⌝ }
+{
+    if x.start <= i {
+        return false;
+    }
+    0 < x.header
+}
+
+// The next run of samples before b, from sample i on, past h header bytes, where row k of n is the first that is left.
+pub(crate) fn next_run(caps: &[u64], n: usize, b: u64, i: u64, h: u64, k: usize) -> Run
+    requires { ⌜ h + headerSum (rest (captureAt (now caps)) n k) < 2 ^ 63 ⌝ }
+    ensures { λ r. ⌜ r ≡ runFrom b i h k (rest (captureAt (now (caps .entry))) n k) ⌝ }
+{
+    let mut g = h;
+    let mut j = k;
+    while j < n {
+        let x = table::capture_at(caps, j);
+        if b <= x.start {
+            return Run {
+                headers: g,
+                end: b,
+                row: j,
+            };
+        }
+        if breaks_run(x, i) {
+            return Run {
+                headers: g,
+                end: x.start,
+                row: j,
+            };
+        }
+        g += x.header;
+        j += 1;
+    }
+    Run {
+        headers: g,
+        end: b,
+        row: j,
+    }
+}
+
 // How many pieces samples a to b have.
 pub(crate) fn count_pieces(t: Summary, caps: &[u64], a: u64, b: u64) -> usize
     requires { ⌜ Laid t (now caps) × (inside t a b ≡ true) ⌝ }
@@ -40,25 +93,15 @@ pub(crate) fn count_pieces(t: Summary, caps: &[u64], a: u64, b: u64) -> usize
 {
     let n = t.captures as usize;
     let mut i = a;
+    let mut h: u64 = 0;
     let mut c: usize = 0;
     let mut k: usize = 0;
-    while k < n {
-        let x = table::capture_at(caps, k);
-        k += 1;
-        if b <= x.start {
-            continue;
-        }
-        if x.start <= i {
-            continue;
-        }
-        if x.header == 0 {
-            continue;
-        }
+    while i < b {
+        let r = next_run(caps, n, b, i, h, k);
         c += 1;
-        i = x.start;
-    }
-    if i < b {
-        return c + 1;
+        i = r.end;
+        h = r.headers;
+        k = r.row;
     }
     c
 }
@@ -84,26 +127,13 @@ pub(crate) fn write_pieces(t: Summary, caps: &[u64], a: u64, b: u64, out: &mut [
     let mut h: u64 = 0;
     let mut c: usize = 0;
     let mut k: usize = 0;
-    while k < n {
-        let x = table::capture_at(caps, k);
-        k += 1;
-        if b <= x.start {
-            continue;
-        }
-        if x.start <= i {
-            h += x.header;
-            continue;
-        }
-        if x.header == 0 {
-            continue;
-        }
-        put_piece(out, c, o, w, h, i, x.start);
+    while i < b {
+        let r = next_run(caps, n, b, i, h, k);
+        put_piece(out, c, o, w, r.headers, i, r.end);
         c += 1;
-        i = x.start;
-        h += x.header;
-    }
-    if i < b {
-        put_piece(out, c, o, w, h, i, b);
+        i = r.end;
+        h = r.headers;
+        k = r.row;
     }
 }
 
@@ -262,26 +292,6 @@ fn write_annotations(t: Summary, notes: &[u64], a: u64, b: u64, out: &mut [u64])
     }
 }
 
-// A refusal: its number and zeros.
-fn no_table(n: u64) -> Summary
-    ensures { λ r. ⌜ r ≡ refused n ⌝ }
-{
-    Summary {
-        refusal: n,
-        datatype: 0,
-        channels: 0,
-        width: 0,
-        offset: 0,
-        trailing: 0,
-        samples: 0,
-        size: 0,
-        captures: 0,
-        annotations: 0,
-        rate: 0,
-        ratelen: 0,
-    }
-}
-
 // The summary of the cut to samples a to b, with n captures and m annotations.
 fn cut_summary(t: Summary, a: u64, b: u64, n: u64, m: u64) -> Summary
     requires { ⌜ (a ≤ b) × ((b - a) * t .width < 2 ^ 63) ⌝ }
@@ -357,7 +367,7 @@ pub fn cut(
     no_table(18)
 }
 
-// How many bytes a copy moves at once, through an array of its own: two loops that LLVM makes one memmove.
+// How many bytes a copy moves at once, at most, through an array of its own: two loops that LLVM makes one memmove.
 const CHUNK: usize = 16384;
 
 // n bytes from place f on, written to out from place p on, one by one.
@@ -372,14 +382,14 @@ fn move_bytes(bytes: &[u8], f: usize, n: usize, out: &mut [u8], p: usize)
     }
 }
 
-// A chunk of bytes from place f on, written to out from place p on.
-fn move_chunk(bytes: &[u8], f: usize, out: &mut [u8], p: usize)
-    requires { ⌜ (f + chunk ≤ length (now bytes)) × (p + chunk ≤ length (now out)) ⌝ }
-    ensures { λ r. ⌜ now (out .exit) ≡ putBytes (now (out .entry)) p (now (bytes .entry)) f chunk ⌝ }
+// n bytes, a chunk at most, from place f on, written to out from place p on.
+fn move_chunk(bytes: &[u8], f: usize, n: usize, out: &mut [u8], p: usize)
+    requires { ⌜ (n ≤ chunk) × (f + n ≤ length (now bytes)) × (p + n ≤ length (now out)) ⌝ }
+    ensures { λ r. ⌜ now (out .exit) ≡ putBytes (now (out .entry)) p (now (bytes .entry)) f n ⌝ }
 {
     let mut buffer = [0u8; CHUNK];
-    move_bytes(bytes, f, CHUNK, &mut buffer, 0);
-    move_bytes(&buffer, 0, CHUNK, out, p);
+    move_bytes(bytes, f, n, &mut buffer, 0);
+    move_bytes(&buffer, 0, n, out, p);
 }
 
 // n bytes of a dataset from place f on, written to out from place p on.
@@ -389,10 +399,10 @@ fn copy_bytes(bytes: &[u8], f: usize, n: usize, out: &mut [u8], p: usize)
 {
     let mut j: usize = 0;
     while n - j >= CHUNK {
-        move_chunk(bytes, f + j, out, p + j);
+        move_chunk(bytes, f + j, CHUNK, out, p + j);
         j += CHUNK;
     }
-    move_bytes(bytes, f + j, n - j, out, p + j);
+    move_chunk(bytes, f + j, n - j, out, p + j);
 }
 
 // The bytes of samples i to e, past h header bytes, written to out from place p on; and where they end there.
@@ -419,26 +429,12 @@ pub(crate) fn copy_samples(t: Summary, caps: &[u64], bytes: &[u8], a: u64, b: u6
     let mut h: u64 = 0;
     let mut p: usize = 0;
     let mut k: usize = 0;
-    while k < n {
-        let x = table::capture_at(caps, k);
-        k += 1;
-        if b <= x.start {
-            continue;
-        }
-        if x.start <= i {
-            h += x.header;
-            continue;
-        }
-        if x.header == 0 {
-            continue;
-        }
-        let g = h + x.header;
-        p = copy_run(bytes, o, w, h, i, x.start, out, p);
-        i = x.start;
-        h = g;
-    }
-    if i < b {
-        copy_run(bytes, o, w, h, i, b, out, p);
+    while i < b {
+        let r = next_run(caps, n, b, i, h, k);
+        p = copy_run(bytes, o, w, r.headers, i, r.end, out, p);
+        i = r.end;
+        h = r.headers;
+        k = r.row;
     }
 }
 

@@ -13,7 +13,7 @@ use lib.Dec.{leb, ltb}
 use borrow.Author.Tests.{le-ltb, lt-ltb, le-leb, lt-leb, leb-true, ltb-true}
 use Rattle.limits.specs.Limits.{channels}
 use Rattle.datatypes.specs.declared.Entry.{Entry}
-use Rattle.datatypes.specs.Datatypes.{Datatype, datatypes, twelve, listed, rowOf, nameOf, componentBytes, unit, widthOf, sampleBytes}
+use Rattle.datatypes.specs.Datatypes.{Datatype, datatypes, twelve, listed, rowOf, nameOf, filled, componentBytes, unit, widthOf, sampleBytes}
 use Rattle.datatypes.specs.Entry.{entry}
 
 -- the test f passes at every row
@@ -112,6 +112,9 @@ name-most c = elim (decLe (length datatypes) c) [ yes h ↦ out h | no h ↦ wit
 module _ (d : Entry) (c : ℕ) (e : d ≡ entry (rowOf c)) where
   pub entry-bytes : d .bytes ≡ componentBytes c
   entry-bytes = ap (λ (x : Entry). x .bytes) e
+
+  pub entry-name : d .name ≡ filled (nameOf c)
+  entry-name = ap (λ (x : Entry). x .name) e
 
   pub entry-chars : d .chars ≡ length (nameOf c)
   entry-chars = ap (λ (x : Entry). x .chars) e

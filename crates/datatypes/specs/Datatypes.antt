@@ -1,9 +1,9 @@
 -- Document 01, "Fields", the line on datatypes, and the first sentence of "Where samples lie".
-use Prim.Native.Nat.{ℕ, zero, suc, _*_}
+use Prim.Native.Nat.{ℕ, zero, suc, _*_, _-_}
 use Prim.Native.String.{String}
 use mathlib.Core.Bool.{Bool, true, false, _&&_, cond}
 use mathlib.Core.List.{List, [], _∷_, _++_}
-use lib.ListN.{length, getD}
+use lib.ListN.{length, getD, replicate}
 use lib.Dec.{leb, ltb}
 use Rattle.limits.specs.Limits.{channels}
 use Rattle.tokens.specs.Text.{ascii}
@@ -47,6 +47,10 @@ rowOf c = getD datatypes c (record { name = []; bytes = 0; complex = false })
 
 abbrev pub nameOf : ℕ → List ℕ
 nameOf c = rowOf c .name
+
+-- a name of at most 8 bytes, filled up with zeros
+abbrev pub filled : List ℕ → List ℕ
+filled n = n ++ replicate (8 - length n) 0
 
 abbrev pub componentBytes : ℕ → ℕ
 componentBytes c = rowOf c .bytes

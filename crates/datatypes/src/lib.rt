@@ -2,7 +2,7 @@
 ghost use mathlib.Core.Path.{_≡_};
 ghost use Prim.Native.Nat.{_≤_, _<_, _^_};
 ghost use lib.ListN.{length, getD};
-ghost use Rattle.datatypes.specs.Datatypes.{listed, rowOf, nameOf, componentBytes, unit, sampleBytes};
+ghost use Rattle.datatypes.specs.Datatypes.{listed, rowOf, nameOf, filled, componentBytes, unit, sampleBytes};
 ghost use Rattle.datatypes.specs.Entry.{entry};
 use limits::Limits;
 
@@ -228,6 +228,14 @@ pub fn name_length(code: u64) -> usize
 {
     let d = entry_of(code);
     d.chars
+}
+
+// The name, filled up with zeros; zeros alone for an unlisted code.
+pub fn name(code: u64) -> [u8; 8]
+    ensures { λ r. ⌜ r ≡ filled (nameOf code) ⌝ }
+{
+    let d = entry_of(code);
+    d.name
 }
 
 // The name's byte at a place; 0 past its end.

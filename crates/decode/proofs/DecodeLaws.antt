@@ -4,6 +4,7 @@ use mathlib.Core.Bool.{Bool, true, false, cond, _&&_, _||_}
 use mathlib.Core.List.{List, [], _∷_, _++_}
 use Prim.Native.Nat.{ℕ, zero, suc, _≤_, _<_, _+_, _-_, _*_, _/_, _%_}
 use native.Mathlib.Omega.{arith}
+use native.Mathlib.Nat.{mul-le-mul}
 use native.Mathlib.Numerals.{add-one}
 use lib.ListN.{length, getD, take, drop, drop-of-length-le}
 use lib.Seq.{take-length, drop-cons}
@@ -20,7 +21,7 @@ use Rattle.tokens.specs.String.{hexDigit, ifHex, hex4At, characterAt}
 use Rattle.tokens.proofs.RunLaws.{Advances, run-out, run-on}
 use Rattle.tokens.proofs.TextLaws.{inside, Onward, onward-is}
 use Rattle.tokens.proofs.StringLaws.{character-onward}
-use Rattle.decode.specs.Same.{same, keyFrom, keyOf}
+use Rattle.decode.specs.Same.{same, keyFrom}
 use Rattle.decode.specs.declared.Unit.{Unit}
 use Rattle.decode.specs.declared.Unit.the-variants.{Byte, Escape}
 use Rattle.decode.specs.declared.Stream.{Stream}
@@ -300,7 +301,7 @@ module _ (s : List ℕ) (at k : ℕ) (l : at < length s) where
     goes : endsString s at ≡ false
     goes = ends-not s at l (λ z. omega arith)
 
-    unit-escape : unitAt s at ≡ u
+    pub unit-escape : unitAt s at ≡ u
     unfolding unitAt
     unit-escape = rw (eq-eqb _ _ eb, ← eu)
 
@@ -334,11 +335,6 @@ pub shorter : (x y : List ℕ) (b : ℕ) → x ≡ b ∷ y → length y < length
 shorter x y b e = omega (arith, ap length e)
 
 -- ---- equal lists
-pub same-refl : (l : List ℕ) → same l l ≡ true
-unfolding same
-same-refl [] = refl
-same-refl (a ∷ l) = rw (eq-eqb a a refl, same-refl l)
-
 pub same-is : (k l : List ℕ) → same k l ≡ true → k ≡ l
 unfolding same
 same-is [] [] e = refl
@@ -349,18 +345,11 @@ same-is (a ∷ k) (b ∷ l) e = go (eqb a b) refl e (same-is k l) where
   go true q e f = let p : a ≡ b = eqb-true _ _ q in let r = f e in cc
   go false q e f = let z : _≡_ {A = ℕ} 0 1 = cc in absurd (omega arith)
 
-pub same-eq : (k l : List ℕ) → k ≡ l → same k l ≡ true
-same-eq k l e = rw e (same-refl l)
-
 pub same-ne : (k l : List ℕ) → (k ≡ l → ⊥) → same k l ≡ false
 same-ne k l f = go (same k l) refl where
   go : (t : Bool) → same k l ≡ t → t ≡ false
   go true e = absurd (f (same-is k l e))
   go false e = refl
-
--- lists with unequal keys are unequal
-pub same-keys : (k l : List ℕ) → (keyOf k ≡ keyOf l → ⊥) → same k l ≡ false
-same-keys k l f = same-ne k l (λ e. f (ap keyOf e))
 
 module _ (x w : List ℕ) (i : ℕ) where
   pub is-end : x ≡ [] → i ≤ length w → eqb i (length w) ≡ same x (drop i w)
@@ -411,14 +400,21 @@ module _ (x z : List ℕ) where
       both-on h = rw (e, f, eq-eqb _ _ h)
 
 -- ---- keys
-module _ (h : ℕ) (x : List ℕ) where
-  pub key-end : x ≡ [] → h ≡ keyFrom h x
+module _ (m h : ℕ) (x : List ℕ) where
+  pub key-end : x ≡ [] → h ≡ keyFrom m h x
   unfolding keyFrom
   key-end e = rw e
 
-  pub key-on : (b : ℕ) (y : List ℕ) → x ≡ b ∷ y → (k : ℕ) → k ≡ (h * 16777619 + b) % 4294967296 → keyFrom k y ≡ keyFrom h x
+  pub key-on : (b : ℕ) (y : List ℕ) → x ≡ b ∷ y → (k : ℕ) → k ≡ (h * m + b) % 4294967296 → keyFrom m k y ≡ keyFrom m h x
   unfolding keyFrom
-  key-on b y e k m = rw (e, m)
+  key-on b y e k f = rw (e, f)
+
+-- one step of a key fits 64 bits
+pub key-fits : (m h b : ℕ) → m < 4294967296 → h < 4294967296 → b < 256 → h * m + b < 18446744073709551616
+key-fits m h b k l n =
+    let p : h ≤ 4294967295 = omega arith in
+    let q : m ≤ 4294967295 = omega arith in
+    omega (arith, mul-le-mul p q)
 
 -- ---- a string's body by itself
 module _ (s : List ℕ) where
@@ -426,7 +422,7 @@ module _ (s : List ℕ) where
   body-is (R.To c) j e = let m : c .at ≡ j = cc in ap to m
   body-is R.Bad j e = let z : _≡_ {A = ℕ} 0 1 = cc in absurd (omega arith)
 
-  past-character : (i : ℕ) (c : Cursor) → characterAt s i ≡ R.To c → i < c .at
+  pub past-character : (i : ℕ) (c : Cursor) → characterAt s i ≡ R.To c → i < c .at
   past-character i c e = let l = onward-is (subst (λ (r : Read). Onward (i + 1) r) e (character-onward s i)) in omega arith
 
   body-advances : Advances s (bodyTurn s)

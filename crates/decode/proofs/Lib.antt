@@ -1,3 +1,5 @@
 pub mod DecodeLaws
 pub mod Theorem
 pub mod PlainLaws
+pub mod ScalarLaws
+pub mod LengthLaws

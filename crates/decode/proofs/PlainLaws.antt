@@ -2,11 +2,11 @@
 use mathlib.Core.Path.{_≡_, refl, sym, ap, _∙_}
 use mathlib.Core.Bool.{Bool, true, false, not, _&&_}
 use mathlib.Core.List.{List, _∷_}
-use Prim.Native.Nat.{ℕ, _≤_, _<_, _+_, _*_, _%_}
+use Prim.Native.Nat.{ℕ, zero, suc, _≤_, _<_, _+_, _-_, _*_, _%_}
 use native.Mathlib.Omega.{arith}
 use lib.ListN.{length}
 use lib.Dec.{eqb, ltb, leb}
-use borrow.Author.Tests.{eq-eqb, ne-eqb, leb-true, ltb-true, eqb-true, eqb-false, not-true}
+use borrow.Author.Tests.{eq-eqb, le-leb, lt-leb, leb-true, leb-false, ltb-true, eqb-true, eqb-false, not-true}
 use Rattle.tokens.specs.Text.{byte, to}
 use Rattle.tokens.specs.String.{stringAt}
 use Rattle.tokens.specs.declared.Cursor.{Cursor}
@@ -19,7 +19,7 @@ use Rattle.decode.specs.declared.Run.{Run}
 use Rattle.decode.specs.declared.Unit.the-variants.{Byte}
 use Rattle.decode.specs.Decode.{decodedFrom}
 use Rattle.decode.specs.Same.{same, keyOf}
-use Rattle.decode.specs.Plain.{plain, keyed, PlainRun}
+use Rattle.decode.specs.Plain.{plain, ordinary, alike, keyed, PlainRun}
 use Rattle.decode.proofs.DecodeLaws.{from-end, from-unit, unit-plain, ends-not, ends-quote, key-end, key-on}
 
 -- what a plain byte is
@@ -36,6 +36,10 @@ and-left false b e = e
 and-right : (a b : Bool) → (a && b) ≡ true → b ≡ true
 and-right true b e = e
 and-right false b e = let z : _≡_ {A = ℕ} 0 1 = cc in absurd (omega arith)
+
+and-assoc : (a b c : Bool) → ((a && b) && c) ≡ (a && (b && c))
+and-assoc true b c = refl
+and-assoc false b c = refl
 
 pub plain-is : (b : ℕ) → plain b ≡ true → Plain b
 unfolding plain
@@ -67,7 +71,7 @@ module _ (s : List ℕ) (i b : ℕ) (e : b ≡ byte s i) (h : plain b ≡ true) 
   pub run-more : (at h : ℕ) → PlainRun s at (record { at = i; key = h }) → (k : ℕ) → k ≡ (h * 16777619 + b) % 4294967296 → k < 4294967296 → PlainRun s at (record { at = i + 1; key = k })
   run-more at h p k q l = record {
     string = plain-string ∙ p .string;
-    key = key-on h (decodedFrom s i) b (decodedFrom s (i + 1)) plain-decoded k q ∙ p .key;
+    key = key-on 16777619 h (decodedFrom s i) b (decodedFrom s (i + 1)) plain-decoded k q ∙ p .key;
     small = l;
   }
 
@@ -76,7 +80,7 @@ module _ (s : List ℕ) (at : ℕ) (r : Run) (p : PlainRun s at r) where
   pub run-quote : byte s (r .at) ≡ 0x22 → K.To (record { at = r .at + 1 }) (r .key) ≡ keyed (stringAt s at) (keyOf (decodedFrom s at))
   run-quote e =
       let f = string-close s (r .at) 0x22 (sym e) refl ∙ p .string in
-      let g = key-end (r .key) (decodedFrom s (r .at)) (from-end s (r .at) (ends-quote s (r .at) (inside s (r .at) 0x22 (sym e) (omega arith)) e)) ∙ p .key in
+      let g = key-end 16777619 (r .key) (decodedFrom s (r .at)) (from-end s (r .at) (ends-quote s (r .at) (inside s (r .at) 0x22 (sym e) (omega arith)) e)) ∙ p .key in
       rw (← f, ← g)
 
   module _ (q : Read) (eq : q ≡ stringAt s (r .at)) where
@@ -86,24 +90,63 @@ module _ (s : List ℕ) (at : ℕ) (r : Run) (p : PlainRun s at r) where
     pub run-to : (c : Cursor) (k : ℕ) → q ≡ R.To c → k ≡ keyOf (decodedFrom s at) → K.To c k ≡ keyed (stringAt s at) (keyOf (decodedFrom s at))
     run-to c k h e = rw (← p .string, ← eq, h, ← e)
 
--- ---- the same plain byte in two strings
-module _ (s t : List ℕ) (i j : ℕ) (h : (eqb (byte s i) (byte t j) && plain (byte s i)) ≡ true) where
-  equal : byte s i ≡ byte t j
-  equal = eqb-true _ _ (and-left _ (plain (byte s i)) h)
+-- ---- the same bytes in two strings, each for itself
+pub room-is : (i n m : ℕ) → n ≤ m → leb i (m - n) ≡ leb (i + n) m
+room-is i n m h = go (leb (i + n) m) refl where
+  go : (t : Bool) → leb (i + n) m ≡ t → leb i (m - n) ≡ t
+  go true e = let l = leb-true (i + n) m e in le-leb i (m - n) (omega arith)
+  go false e = let l = leb-false (i + n) m e in lt-leb i (m - n) (omega arith)
 
-  plain-left : plain (byte s i) ≡ true
-  plain-left = and-right (eqb (byte s i) (byte t j)) _ h
+ordinary-from : (s : List ℕ) (i : ℕ) → i < length s → ordinary (byte s i) ≡ true → decodedFrom s i ≡ byte s i ∷ decodedFrom s (i + 1)
+unfolding ordinary
+ordinary-from s i l h =
+    let q : byte s i ≡ 0x22 → ⊥ = eqb-false _ _ (not-true _ (and-left _ (not (eqb (byte s i) 0x5C)) h)) in
+    let b : byte s i ≡ 0x5C → ⊥ = eqb-false _ _ (not-true _ (and-right (not (eqb (byte s i) 0x22)) _ h)) in
+    from-unit s i Byte (ends-not s i l q) (unit-plain s i b)
 
-  pub both-inside : (i < length s) × (j < length t)
-  both-inside = (plain-inside s i (byte s i) refl plain-left, plain-inside t j (byte s i) equal plain-left)
-
-  pub both-plain : same (decodedFrom s (i + 1)) (decodedFrom t (j + 1)) ≡ same (decodedFrom s i) (decodedFrom t j)
+module _ (s t : List ℕ) where
+  one-alike : (i j : ℕ) → i < length s → j < length t → (eqb (byte s i) (byte t j) && ordinary (byte s i)) ≡ true
+      → same (decodedFrom s (i + 1)) (decodedFrom t (j + 1)) ≡ same (decodedFrom s i) (decodedFrom t j)
   unfolding same
-  both-plain = rw (plain-decoded s i (byte s i) refl plain-left, plain-decoded t j (byte s i) equal plain-left, eq-eqb (byte s i) (byte s i) refl)
+  one-alike i j l m h =
+      let e : byte s i ≡ byte t j = eqb-true _ _ (and-left _ (ordinary (byte s i)) h) in
+      let o : ordinary (byte s i) ≡ true = and-right (eqb (byte s i) (byte t j)) _ h in
+      rw (ordinary-from s i l o, ordinary-from t j m (rw e at o), eq-eqb (byte s i) (byte t j) e)
 
-module _ (s t : List ℕ) (i j x y : ℕ) (ex : x ≡ byte s i) (ey : y ≡ byte t j) where
-  pub plain-same : x ≡ y → (r : Bool) → r ≡ plain x → r ≡ (eqb (byte s i) (byte t j) && plain (byte s i))
-  plain-same h r e = rw (← ex, ← ey, eq-eqb _ _ h) e
+  pub all-alike : (n i j : ℕ) → i + n ≤ length s → j + n ≤ length t → alike n s i t j ≡ true
+      → same (decodedFrom s (i + n)) (decodedFrom t (j + n)) ≡ same (decodedFrom s i) (decodedFrom t j)
+  unfolding alike
+  all-alike zero i j l m h =
+      let p : i + 0 ≡ i = omega arith in
+      let q : j + 0 ≡ j = omega arith in
+      rw (p, q)
+  all-alike (suc n) i j l m h =
+      let p : i + suc n ≡ i + 1 + n = omega arith in
+      let q : j + suc n ≡ j + 1 + n = omega arith in
+      let a = and-left (eqb (byte s i) (byte t j) && ordinary (byte s i)) _ h in
+      let b = and-right (eqb (byte s i) (byte t j) && ordinary (byte s i)) _ h in
+      rw (p, q) (all-alike n (i + 1) (j + 1) (omega arith) (omega arith) b ∙ one-alike i j (omega arith) (omega arith) a)
 
-  pub plain-apart : (x ≡ y → ⊥) → false ≡ (eqb (byte s i) (byte t j) && plain (byte s i))
-  plain-apart h = rw (← ex, ← ey, ne-eqb _ _ h)
+  pub alike-start : (i j n : ℕ) → (true && alike (n - 0) s (i + 0) t (j + 0)) ≡ alike n s i t j
+  alike-start i j n =
+      let m : n - 0 ≡ n = omega arith in
+      let p : i + 0 ≡ i = omega arith in
+      let q : j + 0 ≡ j = omega arith in
+      rw (m, p, q)
+
+  -- one byte more, k of the n being compared
+  pub alike-on : (i j n k : ℕ) → k < n → (ok next : Bool) → next ≡ (ok && (eqb (byte s (i + k)) (byte t (j + k)) && ordinary (byte s (i + k))))
+      → (next && alike (n - (k + 1)) s (i + (k + 1)) t (j + (k + 1))) ≡ (ok && alike (n - k) s (i + k) t (j + k))
+  unfolding alike
+  alike-on i j n k l ok next e =
+      let m : n - k ≡ suc (n - (k + 1)) = omega arith in
+      let p : i + (k + 1) ≡ i + k + 1 = omega arith in
+      let q : j + (k + 1) ≡ j + k + 1 = omega arith in
+      rw (m, p, q, e) (and-assoc ok _ _)
+
+  pub alike-end : (i j n k : ℕ) → n ≤ k → (ok : Bool) → ok ≡ (ok && alike (n - k) s (i + k) t (j + k))
+  unfolding alike
+  alike-end i j n k l ok = let m : n - k ≡ 0 = omega arith in rw m (go ok) where
+    go : (t : Bool) → t ≡ (t && true)
+    go true = refl
+    go false = refl

@@ -5,12 +5,15 @@ use mathlib.Core.Logic.{_↔_}
 use mathlib.Core.List.{List, [], _∷_, _++_}
 use Prim.Native.Nat.{ℕ, zero, suc, _≤_, _<_, _+_, _*_, _-_, _/_, _%_}
 use native.Mathlib.Omega.{arith}
-use lib.ListN.{length}
+use lib.ListN.{length, take, drop}
+use lib.Seq.{take-at}
 use lib.Dec.{eqb, ltb, leb}
-use borrow.Author.Tests.{ne-eqb, lt-ltb, ltb-true, ltb-false, leb-true, eqb-false}
+use borrow.Author.Tests.{eq-eqb, ne-eqb, lt-ltb, ltb-true, ltb-false, leb-true, eqb-true, eqb-false}
 use Rattle.tokens.specs.Run.{Turn, afterTurn, runTurns, run}
-use Rattle.tokens.specs.Text.{byte}
+use Rattle.tokens.specs.Text.{byte, to}
+use Rattle.tokens.specs.String.{characterAt}
 use Rattle.tokens.specs.declared.Read.{Read}
+use Rattle.tokens.specs.declared.Read.the-variants as R
 use Rattle.tokens.proofs.TextLaws.{inside, cond-elim, within-below, within-above}
 use Rattle.tokens.proofs.StringLaws.{character-inside}
 use Rattle.grammar.specs.Grammar as G
@@ -22,11 +25,14 @@ use Rattle.grammar.proofs.Strings.{character-sound, character-complete, CodeAt,
 use Rattle.grammar.proofs.SkipLaws.{All, Ordinary, multibyte-ordinary}
 use Rattle.decode.specs.declared.Unit.{Unit}
 use Rattle.decode.specs.declared.Unit.the-variants.{Byte, Escape}
-use Rattle.decode.specs.Decode.{shortCode, pairCode, unicodeUnit, escapeUnit, unitAt, utf8, endsString, decodedFrom, bodyOnward, bodyTurn, isBody}
+use Rattle.decode.specs.declared.Scalar.{Scalar as Step}
+use Rattle.decode.specs.Decode.{shortCode, pairCode, unicodeUnit, escapeUnit, unitAt, utf8, unitBytes, unitEnd, endsString, decodedFrom, bodyOnward, bodyTurn, isBody}
+use Rattle.decode.specs.Decode.{four, scalar, scalarAt, stepped}
 use Rattle.decode.specs.Utf8.{Scalar, below, above, Encoded, single, several, Utf8, no-text, text}
 use Rattle.decode.specs.Meaning.{Letter, quotation-mark, reverse-solidus, solidus, backspace, form-feed, new-line, return, tabulation}
-use Rattle.decode.specs.Meaning.{Meaning, plain, multibyte, short, unit, surrogates, Means, nothing, next}
-use Rattle.decode.proofs.DecodeLaws.{ends-over, ends-quote, ends-not, from-end, from-unit, unit-plain, low-4, unicode-2, unicode-4, body-end, body-on}
+use Rattle.decode.specs.Meaning.{Meaning, plain, multibyte, short, unit, surrogates, Means, nothing, next, stepRaw, stepBytes, Steps, end, step}
+use Rattle.decode.proofs.DecodeLaws.{ends-over, ends-quote, ends-not, from-end, from-unit, unit-plain, low-4, unicode-2, unicode-4, past-character, body-end, body-on}
+use Rattle.decode.proofs.ScalarLaws.{scalar-end, scalar-unit, scalar-raw}
 
 -- ---- a body is characters
 -- characters stand from i up to the end
@@ -72,6 +78,12 @@ split {A} p m f g = go (ltb p m) refl where
   go : (t : Bool) → ltb p m ≡ t → A
   go true e = f (ltb-true p m e)
   go false e = g (ltb-false p m e)
+
+equal-or : {A : Type 0} (a b : ℕ) → (a ≡ b → A) → ((a ≡ b → ⊥) → A) → A
+equal-or {A} a b f g = go (eqb a b) refl where
+  go : (t : Bool) → eqb a b ≡ t → A
+  go true e = f (eqb-true a b e)
+  go false e = g (eqb-false a b e)
 
 -- by a first byte that is a numeral
 led : {a k : ℕ} {t : List ℕ} → a ≡ k → Multibyte (k ∷ t) → Multibyte (a ∷ t)
@@ -213,6 +225,87 @@ means-utf8 : {cs t : List ℕ} → Means cs t → Utf8 t
 means-utf8 nothing = no-text
 means-utf8 (next m r) = text (meaning-encoded m) (means-utf8 r)
 
+-- ---- a character at a time
+four-all : (l : List ℕ) → length l ≤ 4 → take (length l) (four l) ≡ l
+four-all [] h = refl
+four-all (a ∷ []) h = refl
+four-all (a ∷ (b ∷ [])) h = refl
+four-all (a ∷ (b ∷ (c ∷ []))) h = refl
+four-all (a ∷ (b ∷ (c ∷ (d ∷ [])))) h = refl
+four-all (a ∷ (b ∷ (c ∷ (d ∷ (e ∷ l))))) h = absurd (omega arith)
+
+utf8-short : (p : ℕ) → length (utf8 p) ≤ 4
+unfolding utf8
+utf8-short p =
+    cond-elim P (ltb p 0x80) _ _ (λ _. omega arith)
+    (λ _. cond-elim P (ltb p 0x800) _ _ (λ _. omega arith) (λ _. cond-elim P (ltb p 0x10000) _ _ (λ _. omega arith) (λ _. omega arith)))
+  where
+    P : List ℕ → Type 0
+    P l = length l ≤ 4
+
+unit-short : (s : List ℕ) (at : ℕ) (u : Unit) → length (unitBytes s at u) ≤ 4
+unit-short s at Byte = omega arith
+unit-short s at (Escape p j) = utf8-short p
+
+multibyte-short : {c : List ℕ} → Multibyte c → length c ≤ 4
+multibyte-short (row2 h g) = omega arith
+multibyte-short (row3 h g) = omega arith
+multibyte-short (row4 h g f) = omega arith
+multibyte-short (row5 h g) = omega arith
+multibyte-short (row6 h g f) = omega arith
+multibyte-short (row7 h g f) = omega arith
+multibyte-short (row8 h g f e) = omega arith
+multibyte-short (row9 h g f) = omega arith
+
+encoded-short : {t : List ℕ} → Encoded t → length t ≤ 4
+encoded-short (single h) = omega arith
+encoded-short (several m) = multibyte-short m
+
+stands-part : {s xs : List ℕ} {i j : ℕ} → Stands s i xs j → take (j - i) (drop i s) ≡ xs
+stands-part {s} {xs} {i} {j} q =
+    let n : length xs ≡ j - i = omega (arith, q .end) in
+    ap (take (j - i)) (q .rest) ∙ take-at xs (drop j s) (j - i) n
+
+-- raw bytes that are one character are one step
+raw-step : {s : List ℕ} (c : List ℕ) {i j : ℕ} → Character c → Stands s i c j → All Ordinary c → scalarAt s i ≡ scalar c j
+raw-step {s} [] {i} {j} p q h =
+    let l = past-character s i (record { at = j }) (character-complete p q .reads) in
+    let e = stands-nil q in
+    absurd (omega arith)
+raw-step {s} (b ∷ xs) {i} {j} p q h =
+    let f = character-complete p q in
+    sym (scalar-raw s i (stands-inside s q) (rw (stands-head s q) (h .0 .1)) (f .inner) (to j) (sym (f .reads)) (to j) refl)
+    ∙ ap (λ (x : List ℕ). scalar x j) (stands-part q)
+
+escape-step : (s : List ℕ) (i : ℕ) {j p : ℕ} → byte s i ≡ 0x5C → unitAt s i ≡ Escape p j → scalarAt s i ≡ scalar (utf8 p) j
+unfolding scalarAt
+escape-step s i {j} {p} e u = rw (ends-not s i (inside s i 0x5C (sym e) (omega arith)) (λ z. omega arith), eq-eqb _ _ e, u)
+
+meaning-step : {s c t : List ℕ} {i j : ℕ} → Meaning c t → Stands s i c j → scalarAt s i ≡ scalar t j
+meaning-step (plain {b} h f g) q = raw-step (b ∷ []) (G.plain h f g) q ((f, g), tt)
+meaning-step (multibyte {c} m) q = raw-step c (G.multibyte m) q (multibyte-ordinary m)
+meaning-step {s} {i} {j} (short {p} l) q =
+    escape-step s i (stands-head s q) (short-unit l q) ∙ ap (λ (x : List ℕ). scalar x j) (utf8-ascii p (letter-code l .1))
+meaning-step {s} {i} (unit c h) q = let u = unit-complete c q in escape-step s i (u .slash) (single-unit u h)
+meaning-step {s} {i} (surrogates {u} {v} c h d g) q =
+    let a = unit-complete c (stands-left s u v q) in
+    escape-step s i (a .slash) (pair-unit a h (unit-complete d (stands-right s u v q)) g)
+
+step-as : {s c t ts : List ℕ} {i j : ℕ} → scalarAt s i ≡ scalar t j → take (j - i) (drop i s) ≡ c → Meaning c t → Encoded t → Steps s j ts → Steps s i (t ++ ts)
+step-as {s} {c} {t} {ts} {i} {j} e p m n r =
+    let raw : stepRaw s i ≡ c = ap (λ (x : Step). take (x .at - i) (drop i s)) e ∙ p in
+    let bytes : stepBytes s i ≡ t = ap (λ (x : Step). take (x .len) (x .bytes)) e ∙ four-all t (encoded-short n) in
+    let past : scalarAt s i .at ≡ j = ap (λ (x : Step). x .at) e in
+    subst (λ (x : List ℕ). Steps s i (x ++ ts)) bytes
+    (step (subst (λ (x : List ℕ). Meaning x (stepBytes s i)) (sym raw) (subst (Meaning c) (sym bytes) m)) (subst Encoded (sym bytes) n)
+    (subst (λ (x : ℕ). Steps s x ts) (sym past) r))
+
+means-steps : {s cs t : List ℕ} {i k : ℕ} → Means cs t → Stands s i cs k → endsString s k ≡ true → Steps s i t
+means-steps {s} {i} {k} nothing q e = end (ap (λ (r : Step). r .len) (sym (scalar-end s i (rw (stands-nil q) e))))
+means-steps {s} (next {c} {cs = cs} m r) q e =
+    let l = stands-left s c cs q in
+    step-as (meaning-step m l) (stands-part l) m (meaning-encoded m) (means-steps r (stands-right s c cs q) e)
+
 -- what a body is decoded to is what its characters mean
 pub body-means : (s : List ℕ) → isBody s ≡ true → Means s (decodedFrom s 0)
 body-means s e = let m = characters-mean (body-is-characters s .0 e) .1 in rw (means-decoded m) m
@@ -220,6 +313,38 @@ body-means s e = let m = characters-mean (body-is-characters s .0 e) .1 in rw (m
 -- and valid UTF-8
 pub body-utf8 : (s : List ℕ) → isBody s ≡ true → Utf8 (decodedFrom s 0)
 body-utf8 s e = means-utf8 (body-means s e)
+
+-- the steps from its beginning on yield it, a character each
+pub body-steps : (s : List ℕ) → isBody s ≡ true → Steps s 0 (decodedFrom s 0)
+body-steps s e = means-steps (body-means s e) (stands-all s) (ends-over s (length s) (omega arith))
+
+module _ (s : List ℕ) (at : ℕ) where
+  said : (l : List ℕ) (j : ℕ) → scalarAt s at ≡ scalar l j → length l ≤ 4 → decodedFrom s at ≡ l ++ decodedFrom s j → stepped s (scalarAt s at) ≡ decodedFrom s at
+  said l j e h d = ap (stepped s) e ∙ ap (λ (x : List ℕ). x ++ decodedFrom s j) (four-all l h) ∙ sym d
+
+  end-said : endsString s at ≡ true → stepped s (scalarAt s at) ≡ decodedFrom s at
+  end-said e = said [] at (sym (scalar-end s at e)) (omega arith) refl
+
+  module _ (l : at < length s) (q : byte s at ≡ 0x22 → ⊥) where
+    escape-said : byte s at ≡ 0x5C → stepped s (scalarAt s at) ≡ decodedFrom s at
+    unfolding unitAt
+    escape-said e =
+        let u = unitAt s at in
+        let f : u ≡ escapeUnit s (at + 1) = rw (eq-eqb _ _ e) in
+        said (unitBytes s at u) (unitEnd at u) (sym (scalar-unit s at l e u f u refl)) (unit-short s at u) (from-unit s at u (ends-not s at l q) refl)
+
+    raw-said : (byte s at ≡ 0x5C → ⊥) → stepped s (scalarAt s at) ≡ decodedFrom s at
+    raw-said h = go refl (character-sound s at q) where
+      go : {r : Read} → characterAt s at ≡ r → Got (Derived Character s at) r → stepped s (scalarAt s at) ≡ decodedFrom s at
+      go e (got {c} (derived p d)) = let m = character-means p in said (m .0) (c .at) (meaning-step (m .1) d) (encoded-short (meaning-encoded (m .1))) (meaning-from (m .1) d)
+      go e not-got = said (byte s at ∷ []) (at + 1) (sym (scalar-raw s at l h q R.Bad (sym e) R.Bad refl)) (omega arith) (from-unit s at Byte (ends-not s at l q) (unit-plain s at h))
+
+  -- whatever the bytes are, a step yields the beginning of the decoded text, which goes on past it
+  pub step-decoded : stepped s (scalarAt s at) ≡ decodedFrom s at
+  step-decoded =
+      split at (length s)
+      (λ l. equal-or (byte s at) 0x22 (λ e. end-said (ends-quote s at l e)) (λ q. equal-or (byte s at) 0x5C (escape-said l q) (raw-said l q)))
+      (λ l. end-said (ends-over s at l))
 
 -- a string that stands in a text is decoded as its characters are by themselves
 pub decoded-local : {s cs : List ℕ} {i k : ℕ} → Characters cs → Stands s i cs k → byte s k ≡ 0x22 → decodedFrom s i ≡ decodedFrom cs 0

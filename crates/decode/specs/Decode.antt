@@ -4,7 +4,7 @@
 use mathlib.Core.Bool.{Bool, true, false, cond, _||_}
 use mathlib.Core.List.{List, [], _∷_, _++_}
 use Prim.Native.Nat.{ℕ, zero, suc, _+_, _*_, _-_, _/_, _%_}
-use lib.ListN.{length, drop}
+use lib.ListN.{length, getD, take, drop}
 use lib.Dec.{eqb, ltb, leb}
 use Rattle.tokens.specs.Run.{Turn, on, out, run}
 use Rattle.tokens.specs.Text.{byte, within}
@@ -17,6 +17,7 @@ use Rattle.decode.specs.declared.Unit.{Unit}
 use Rattle.decode.specs.declared.Unit.the-variants.{Byte, Escape}
 use Rattle.decode.specs.declared.Stream.{Stream}
 use Rattle.decode.specs.declared.Stream.the-variants.{Next, End}
+use Rattle.decode.specs.declared.Scalar.{Scalar}
 
 -- the code point of a short escape by its letter; 256 for any other byte
 unfoldable pub shortCode : ℕ → ℕ
@@ -97,6 +98,32 @@ bodyTurn s at = cond (leb (length s) at) (out true) (cond (eqb (byte s at) 0x22)
 
 unfoldable pub isBody : List ℕ → Bool
 isBody s = run s false (bodyTurn s) 0
+
+-- ---- one character at a time
+
+-- four bytes: those of a list, and 0 past its end
+abbrev pub four : List ℕ → List ℕ
+four l = getD l 0 0 ∷ (getD l 1 0 ∷ (getD l 2 0 ∷ (getD l 3 0 ∷ [])))
+
+abbrev pub scalar : List ℕ → ℕ → Scalar
+scalar l j = record { bytes = four l; len = length l; at = j }
+
+-- raw bytes that are read as one character are one step; a byte that begins none is one by itself
+abbrev pub rawScalar : List ℕ → ℕ → Read → Scalar
+rawScalar s at (R.To c) = scalar (take (c .at - at) (drop at s)) (c .at)
+rawScalar s at R.Bad = scalar (byte s at ∷ []) (at + 1)
+
+-- The next character from a place on: its decoded bytes, and the place past it; no bytes where the string ends. An escape, or a
+-- pair of them, is one step.
+unfoldable pub scalarAt : List ℕ → ℕ → Scalar
+scalarAt s at =
+    cond (endsString s at) (scalar [] at)
+    (cond (eqb (byte s at) 0x5C) (scalar (unitBytes s at (unitAt s at)) (unitEnd at (unitAt s at)))
+    (rawScalar s at (characterAt s at)))
+
+-- what a step says: its bytes, and then the decoded text past it
+abbrev pub stepped : List ℕ → Scalar → List ℕ
+stepped s r = take (r .len) (r .bytes) ++ decodedFrom s (r .at)
 
 -- ---- for the code: the decoded bytes from byte k of the unit at a place on; none where that unit has no byte k
 

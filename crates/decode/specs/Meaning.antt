@@ -3,8 +3,9 @@ use mathlib.Core.Path.{_≡_}
 use mathlib.Core.List.{List, [], _∷_, _++_}
 use Prim.Native.Nat.{ℕ, _+_, _*_, _-_}
 use Rattle.grammar.specs.Grammar.{Between, Multibyte, CodeUnit}
-use Rattle.decode.specs.Decode.{utf8}
-use Rattle.decode.specs.Utf8.{Scalar}
+use lib.ListN.{take, drop}
+use Rattle.decode.specs.Decode.{utf8, scalarAt}
+use Rattle.decode.specs.Utf8.{Scalar, Encoded}
 
 -- the letter of a short escape, and the character that it means
 pub data Letter : ℕ → ℕ → Type 0 where
@@ -30,3 +31,17 @@ pub data Meaning : List ℕ → List ℕ → Type 0 where
 pub data Means : List ℕ → List ℕ → Type 0 where
   nothing : Means [] []
   next : {c t cs ts : List ℕ} → Meaning c t → Means cs ts → Means (c ++ cs) (t ++ ts)
+
+-- the raw bytes that a step passes, and the bytes that it yields
+abbrev pub stepRaw : List ℕ → ℕ → List ℕ
+stepRaw s at = take (scalarAt s at .at - at) (drop at s)
+
+abbrev pub stepBytes : List ℕ → ℕ → List ℕ
+stepBytes s at = take (scalarAt s at .len) (scalarAt s at .bytes)
+
+-- Steps from a place on, and the text that they yield together: each passes one character and yields what it means, one scalar
+-- value in UTF-8, and the last finds the string's end.
+pub data Steps (s : List ℕ) : ℕ → List ℕ → Type 0 where
+  end : {at : ℕ} → scalarAt s at .len ≡ 0 → Steps s at []
+  step : {at : ℕ} {t : List ℕ} → Meaning (stepRaw s at) (stepBytes s at) → Encoded (stepBytes s at) → Steps s (scalarAt s at .at) t
+      → Steps s at (stepBytes s at ++ t)

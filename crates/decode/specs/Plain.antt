@@ -1,9 +1,10 @@
 -- For the code: bytes of a string that stand for themselves and need no further look, and a string read with its key.
 use mathlib.Core.Path.{_≡_}
-use mathlib.Core.Bool.{Bool, not, _&&_}
+use mathlib.Core.Bool.{Bool, true, not, _&&_}
 use mathlib.Core.List.{List}
-use Prim.Native.Nat.{ℕ, _<_}
+use Prim.Native.Nat.{ℕ, zero, suc, _+_, _<_}
 use lib.Dec.{eqb, ltb, leb}
+use Rattle.tokens.specs.Text.{byte}
 use Rattle.tokens.specs.String.{stringAt}
 use Rattle.tokens.specs.declared.Read.{Read}
 use Rattle.tokens.specs.declared.Read.the-variants as R
@@ -17,6 +18,15 @@ use Rattle.decode.specs.Same.{keyFrom, keyOf}
 unfoldable pub plain : ℕ → Bool
 plain b = leb 0x20 b && not (eqb b 0x22) && not (eqb b 0x5C) && ltb b 0x80
 
+-- no quote and no backslash
+unfoldable pub ordinary : ℕ → Bool
+ordinary b = not (eqb b 0x22) && not (eqb b 0x5C)
+
+-- the same n bytes stand at two places, each for itself
+unfoldable pub alike : ℕ → List ℕ → ℕ → List ℕ → ℕ → Bool
+alike zero s i t j = true
+alike (suc n) s i t j = (eqb (byte s i) (byte t j) && ordinary (byte s i)) && alike n s (i + 1) t (j + 1)
+
 -- a string that was read, with its key
 abbrev pub keyed : Read → ℕ → Keyed
 keyed (R.To c) k = K.To c k
@@ -25,5 +35,5 @@ keyed R.Bad k = K.Bad
 -- the string goes on past the plain bytes, and so does its key
 pub record PlainRun (s : List ℕ) (at : ℕ) (r : Run) : Type 0 where
   pub string : stringAt s (r .at) ≡ stringAt s at
-  pub key : keyFrom (r .key) (decodedFrom s (r .at)) ≡ keyOf (decodedFrom s at)
+  pub key : keyFrom 16777619 (r .key) (decodedFrom s (r .at)) ≡ keyOf (decodedFrom s at)
   pub small : r .key < 4294967296

@@ -1,4 +1,4 @@
--- Equal bytes as a test, and a number that equal lists of bytes share.
+-- Equal bytes as a test, and numbers that equal lists of bytes share.
 use mathlib.Core.Bool.{Bool, true, false, _&&_}
 use mathlib.Core.List.{List, [], _∷_}
 use Prim.Native.Nat.{ℕ, _+_, _*_, _%_}
@@ -11,10 +11,17 @@ same [] (b ∷ l) = false
 same (a ∷ k) [] = false
 same (a ∷ k) (b ∷ l) = eqb a b && same k l
 
--- Equal lists have equal keys, so lists with unequal keys are told apart by them alone.
-unfoldable pub keyFrom : ℕ → List ℕ → ℕ
-keyFrom h [] = h
-keyFrom h (b ∷ l) = keyFrom ((h * 16777619 + b) % 4294967296) l
+-- Equal lists have equal keys, so lists with unequal keys are told apart by them alone. m is the key's multiplier.
+unfoldable pub keyFrom : ℕ → ℕ → List ℕ → ℕ
+keyFrom m h [] = h
+keyFrom m h (b ∷ l) = keyFrom m ((h * m + b) % 4294967296) l
+
+abbrev pub keyBy : ℕ → List ℕ → ℕ
+keyBy m l = keyFrom m 2166136261 l
 
 abbrev pub keyOf : List ℕ → ℕ
-keyOf l = keyFrom 2166136261 l
+keyOf = keyBy 16777619
+
+-- another key, for lists that share the first
+abbrev pub secondKeyOf : List ℕ → ℕ
+secondKeyOf = keyBy 2654435761

@@ -1,15 +1,20 @@
-// The decoded text of a JSON string, a byte at a time, with no buffer.
+// The decoded text of a JSON string, a byte or a character at a time, with no buffer.
+mod alike;
+mod characters;
 mod plain;
 
+pub use characters::next_scalar;
 pub use plain::keyed_string;
 ghost use mathlib.Core.Path.{_≡_};
 ghost use Prim.Native.Nat.{ℕ, _<_, _≤_};
 ghost use lib.ListN.{length, getD};
 ghost use Rattle.tokens.specs.Text.{byte};
 ghost use Rattle.decode.specs.Decode.{shortCode, pairCode, lowUnit, unicodeUnit, escapeUnit, utf8, laterByte, stream, streamed, decodedFrom, isBody};
-ghost use Rattle.decode.specs.Same.{same, keyOf};
+ghost use Rattle.decode.specs.Same.{same, keyBy, keyOf, secondKeyOf};
+use crate::alike::alike_prefix;
+use crate::plain::FIRST;
+use crate::plain::SECOND;
 use crate::plain::mix;
-use crate::plain::plain_prefix;
 use tokens::Cursor;
 use tokens::Hex4;
 use tokens::Read;
@@ -26,6 +31,13 @@ pub enum Unit {
 pub enum Stream {
     Next(u8, usize, usize),
     End,
+}
+
+// The next character: the first len of the bytes are its UTF-8, and it ends before at; no bytes where the string ends.
+pub struct Scalar {
+    pub bytes: [u8; 4],
+    pub len: usize,
+    pub at: usize,
 }
 
 // Where a string ends, and its key; or that there is none.
@@ -278,7 +290,7 @@ pub fn text_is(s: &[u8], at: usize, word: &[u8]) -> bool
 pub fn same_text(s: &[u8], a: usize, t: &[u8], b: usize) -> bool
     ensures { λ r. ⌜ r ≡ same (decodedFrom (now (s .entry)) a) (decodedFrom (now (t .entry)) b) ⌝ }
 {
-    let p = plain_prefix(s, a, t, b);
+    let p = alike_prefix(s, a, t, b);
     let mut at = p.a;
     let mut k = 0usize;
     let mut bt = p.b;
@@ -306,22 +318,37 @@ pub fn same_text(s: &[u8], a: usize, t: &[u8], b: usize) -> bool
     }
 }
 
-// The number that strings of the same decoded text share.
-pub fn text_key(s: &[u8], at: usize) -> u32
-    ensures { λ r. ⌜ r ≡ keyOf (decodedFrom (now (s .entry)) at) ⌝ }
+// A number that strings of the same decoded text share, by its multiplier.
+pub(crate) fn key_by(s: &[u8], at: usize, m: u64) -> u32
+    requires { ⌜ m < 4294967296 ⌝ }
+    ensures { λ r. ⌜ r ≡ keyBy m (decodedFrom (now (s .entry)) at) ⌝ }
 {
     let mut h = 2166136261u64;
     let mut j = at;
     let mut k = 0usize;
     loop {
         let g = next_byte(s, j, k);
-        let Stream::Next(b, m, l) = g else {
+        let Stream::Next(b, i, l) = g else {
             return h as u32;
         };
-        h = mix(h, b);
-        j = m;
+        h = mix(m, h, b);
+        j = i;
         k = l;
     }
+}
+
+// The key of the string at a place.
+pub fn text_key(s: &[u8], at: usize) -> u32
+    ensures { λ r. ⌜ r ≡ keyOf (decodedFrom (now (s .entry)) at) ⌝ }
+{
+    key_by(s, at, FIRST)
+}
+
+// Another key of it, for strings that share the first.
+pub fn second_key(s: &[u8], at: usize) -> u32
+    ensures { λ r. ⌜ r ≡ secondKeyOf (decodedFrom (now (s .entry)) at) ⌝ }
+{
+    key_by(s, at, SECOND)
 }
 
 // A slice is a string's body by itself.

@@ -1,19 +1,20 @@
 ghost use mathlib.Core.Path.{_≡_};
-ghost use mathlib.Core.Bool.{_&&_};
 ghost use Prim.Native.Nat.{_+_, _*_, _%_, _<_};
-ghost use lib.Dec.{eqb};
-ghost use Rattle.tokens.specs.Text.{byte};
 ghost use Rattle.tokens.specs.String.{stringAt};
 ghost use Rattle.decode.specs.Decode.{decodedFrom};
 ghost use Rattle.decode.specs.Plain.{plain, keyed, PlainRun};
-ghost use Rattle.decode.specs.Same.{same, keyOf};
+ghost use Rattle.decode.specs.Same.{keyOf};
 use crate::Keyed;
-use crate::Places;
 use crate::Run;
 use crate::text_key;
 use tokens::Cursor;
 use tokens::Read;
 use tokens::peek;
+
+// The multipliers of the two keys.
+pub(crate) const FIRST: u64 = 16777619;
+
+pub(crate) const SECOND: u64 = 2654435761;
 
 // A byte of a string that stands for itself: ASCII, and no control byte, quote or backslash.
 pub(crate) fn is_plain(b: u8) -> bool
@@ -31,12 +32,13 @@ pub(crate) fn is_plain(b: u8) -> bool
     b < 0x80
 }
 
-// One byte more in a key.
-pub(crate) fn mix(h: u64, b: u8) -> u64
+// One byte more in a key of multiplier m.
+pub(crate) fn mix(m: u64, h: u64, b: u8) -> u64
+    requires { ⌜ m < 4294967296 ⌝ }
     requires { ⌜ h < 4294967296 ⌝ }
-    ensures { λ r. ⌜ r ≡ (h * 16777619 + b) % 4294967296 ⌝ }
+    ensures { λ r. ⌜ r ≡ (h * m + b) % 4294967296 ⌝ }
 {
-    (h * 16777619 + b as u64) % 4294967296
+    (h * m + b as u64) % 4294967296
 }
 
 // Past the plain bytes from a place on, with their key.
@@ -48,7 +50,7 @@ pub(crate) fn plain_run(s: &[u8], at: usize) -> Run
     loop {
         let b = peek(s, i);
         if is_plain(b) {
-            h = mix(h, b);
+            h = mix(FIRST, h, b);
             i += 1;
         } else {
             return Run { at: i, key: h };
@@ -73,29 +75,4 @@ pub fn keyed_string(s: &[u8], at: usize) -> Keyed
     };
     let k = text_key(s, at);
     Keyed::To(c, k)
-}
-
-// The same plain byte stands at a place of each text.
-pub(crate) fn same_plain(s: &[u8], i: usize, t: &[u8], j: usize) -> bool
-    ensures { λ r. ⌜ r ≡ (eqb (byte (now (s .entry)) i) (byte (now (t .entry)) j) && plain (byte (now (s .entry)) i)) ⌝ }
-{
-    let x = peek(s, i);
-    let y = peek(t, j);
-    if x == y {
-        return is_plain(x);
-    }
-    false
-}
-
-// Past the plain bytes that two strings begin with alike.
-pub(crate) fn plain_prefix(s: &[u8], a: usize, t: &[u8], b: usize) -> Places
-    ensures { λ r. ⌜ same (decodedFrom (now (s .entry)) (r .a)) (decodedFrom (now (t .entry)) (r .b)) ≡ same (decodedFrom (now (s .entry)) a) (decodedFrom (now (t .entry)) b) ⌝ }
-{
-    let mut i = a;
-    let mut j = b;
-    while same_plain(s, i, t, j) {
-        i += 1;
-        j += 1;
-    }
-    Places { a: i, b: j }
 }

@@ -5,14 +5,13 @@ use mathlib.Core.List.{List, [], _∷_, map}
 use Prim.Native.Nat.{ℕ, zero, suc, _≤_, _<_, _+_, _-_, _*_}
 use native.Mathlib.Omega.{arith}
 use native.Mathlib.Numerals.{add-one, sub-one}
-use lib.ListN.{length, getD, set, take, length-set}
-use lib.Seq.{getD-set-same, getD-set-other, getD-take, take-set-le, take-take}
+use lib.ListN.{length, getD, set, take, drop, length-set}
+use lib.Seq.{getD-set-same, getD-set-other, getD-take, take-set-le, take-take, take-nil}
 use lib.Dec.{eqb, ltb, leb}
 use borrow.Author.Tests.{lt-ltb, le-ltb, leb-true, leb-false, eqb-true, ltb-true, ltb-false}
 use Rattle.limits.specs.Limits.{members}
 use Rattle.tokens.specs.Text.{byte, to, blank, skipBlanks}
-use Rattle.tokens.specs.String.{stringAt}
-use Rattle.tokens.specs.Group.{afterItem, colonAt, nameAt, nameThen}
+use Rattle.tokens.specs.Group.{afterItem, colonAt, nameAt}
 use Rattle.tokens.specs.declared.Cursor.{Cursor}
 use Rattle.tokens.specs.declared.Read.{Read}
 use Rattle.tokens.specs.declared.Read.the-variants as R
@@ -20,17 +19,17 @@ use Rattle.tokens.specs.declared.After.{After}
 use Rattle.tokens.specs.declared.After.the-variants as A
 use Rattle.tokens.specs.declared.Name.{Name}
 use Rattle.tokens.specs.declared.Name.the-variants as N
-use Rattle.tokens.proofs.TextLaws.{inside, cond-elim, blanks-onward, Onward, onward-is}
-use Rattle.tokens.proofs.StringLaws.{string-onward}
+use Rattle.tokens.proofs.TextLaws.{inside, cond-elim, blanks-onward}
 use Rattle.tokens.proofs.GroupLaws.{OnwardName, onward-name, name-onward, OnwardAfter, onward-item, after-onward}
 use Rattle.grammar.specs.Reading.{itemsAt, memberAt, valueAt, arrayAt, objectAt}
-use Rattle.grammar.specs.Skip.{skipString, scalar}
-use Rattle.grammar.proofs.SkipRead.{string-read, value-read}
+use Rattle.grammar.specs.Skip.{scalar}
+use Rattle.grammar.proofs.SkipRead.{value-read}
 use Rattle.grammar.proofs.ItemLaws.{value-onward, value-forward, member-forward, member-none, member-value, items-none, items-bad, items-close, items-less, items-more, group-empty, group-items, array-deep, object-deep, array-group, object-group}
 use Rattle.members.specs.declared.Member.{Member}
 use Rattle.members.specs.declared.Element.{Element}
 use Rattle.members.specs.Members.{nextItem, membersFrom, elementsFrom}
 use Rattle.members.proofs.StepLaws.{after-item, after-close, after-scalar, members-more, members-none, elements-more, elements-none}
+use Rattle.members.proofs.ReadLaws.{NameRead, name-read}
 use Rattle.decode.specs.Decode.{decodedFrom}
 use Rattle.decode.specs.Same.{keyOf}
 use Rattle.json.specs.declared.Scan.{Scan}
@@ -40,7 +39,7 @@ use Rattle.json.specs.declared.Named.the-variants as D
 use Rattle.json.specs.declared.Names.{Names}
 use Rattle.json.specs.Judged.{scanned, named}
 use Rattle.json.specs.Names.{nameOf, has, repeated, badNames, any, badArray, badObject, badMembersAt}
-use Rattle.json.specs.Stack.{namesOn, KeysAgree, refuses, NameKept, kept, refused, badArrayAt, badObjectAt, Kept}
+use Rattle.json.specs.Stack.{namesOn, keptKey, KeysAgree, refuses, NameKept, kept, refused, badArrayAt, badObjectAt, Kept}
 
 -- ---- what a scan tells
 pub scan-bad : (x : Read) (b : Bool) → S.Bad ≡ scanned x b → x ≡ R.Bad
@@ -76,6 +75,14 @@ kept-set used k l x h = record { same = take-set-le used l k x h; long = length-
 kept-at : {used : ℕ} {a b : List ℕ} → Kept used a b → (k : ℕ) → k < used → getD b k 0 ≡ getD a k 0
 kept-at {used} {a} {b} p k h = sym (getD-take used b k 0 h) ∙ ap (λ (l : List ℕ). getD l k 0) (p .same) ∙ getD-take used a k 0 h
 
+part-taken : (base i : ℕ) (l : List ℕ) → take i (drop base l) ≡ drop base (take (base + i) l)
+part-taken zero i l = let e : zero + i ≡ i = omega arith in rw e
+part-taken (suc base) i [] = take-nil i ∙ ap (drop (suc base)) (sym (take-nil (suc base + i)))
+part-taken (suc base) i (x ∷ l) = let e : suc base + i ≡ suc (base + i) = omega arith in rw e (part-taken base i l)
+
+part-kept : {used : ℕ} {a b : List ℕ} → Kept used a b → (base i : ℕ) → base + i ≤ used → take i (drop base b) ≡ take i (drop base a)
+part-kept {used} {a} {b} p base i h = part-taken base i b ∙ ap (drop base) (kept-less h p .same) ∙ sym (part-taken base i a)
+
 -- ---- the names kept, in memory that is kept
 names-kept : (s : List ℕ) {more : ℕ} {a b : List ℕ} → Kept more a b → (base n : ℕ) → base + n ≤ more → namesOn s b base n ≡ namesOn s a base n
 unfolding namesOn
@@ -85,7 +92,10 @@ names-kept s {more} {a} {b} p base (suc n) h =
 
 agree-kept : (s : List ℕ) {more : ℕ} {a b k l : List ℕ} → Kept more a b → Kept more k l → (base n : ℕ) → base + n ≤ more → KeysAgree s a k base n → KeysAgree s b l base n
 unfolding KeysAgree
-agree-kept s p q base n h f i g = kept-at q (base + i) (omega arith) ∙ f i g ∙ ap (λ (x : ℕ). keyOf (decodedFrom s x)) (sym (kept-at p (base + i) (omega arith)))
+agree-kept s {a} {b} {k} {l} p q base n h f i g =
+    let e : keptKey (take i (drop base l)) (decodedFrom s (getD b (base + i) 0)) ≡ keptKey (take i (drop base k)) (decodedFrom s (getD a (base + i) 0)) =
+    rw (part-kept q base i (omega arith), kept-at p (base + i) (omega arith)) in
+    kept-at q (base + i) (omega arith) ∙ f i g ∙ sym e
 
 names-long : (s places : List ℕ) (base n : ℕ) → length (namesOn s places base n) ≡ n
 unfolding namesOn
@@ -286,45 +296,16 @@ abbrev pub ObjectTold : ℕ → List ℕ → ℕ → Scan → Type 0
 ObjectTold d s start r = r ≡ scanned (itemsAt (memberAt (valueAt d s) s) s 0x7D start) (badObject (badMembersAt d s) s (membersFrom s start))
 
 -- ---- a name was read
-record Parts (s : List ℕ) (i q : ℕ) (v : Cursor) : Type 0 where
-  end : Cursor
-  quote : byte s i ≡ 0x22
-  string : skipString s (i + 1) ≡ end .at
-  colon : colonAt s (end .at) ≡ R.To v
-  last : i + 2 ≤ end .at
-
-name-parts : (s : List ℕ) (i q : ℕ) (v : Cursor) → nameAt s i ≡ N.At q v → Parts s i q v
-unfolding nameAt
-name-parts s i q v e =
-    cond-elim (λ (x : Name). x ≡ N.At q v → Parts s i q v) (eqb (byte s i) 0x22) _ _
-    (λ b. text (stringAt s (i + 1)) refl (eqb-true _ _ b)) (λ _ h. let z : _≡_ {A = ℕ} 0 1 = cc in absurd (omega arith)) e
-  where
-    after : (c : Cursor) (r : Read) → stringAt s (i + 1) ≡ R.To c → colonAt s (c .at) ≡ r → byte s i ≡ 0x22
-        → nameThen r (λ w. N.At (c .at - 1) (record { at = w })) ≡ N.At q v → Parts s i q v
-    after c (R.To w) p h b g = record {
-      end = c;
-      quote = b;
-      string = string-read s i c b p;
-      colon = h ∙ cc;
-      last = omega (arith, onward-is (subst (λ (x : Read). Onward (i + 1 + 1) x) p (string-onward s (i + 1))));
-    }
-    after c R.Bad p h b g = let z : _≡_ {A = ℕ} 0 1 = cc in absurd (omega arith)
-
-    text : (r : Read) → stringAt s (i + 1) ≡ r → byte s i ≡ 0x22
-        → nameThen r (λ x. nameThen (colonAt s x) (λ w. N.At (x - 1) (record { at = w }))) ≡ N.At q v → Parts s i q v
-    text (R.To c) p b g = after c (colonAt s (c .at)) p refl b g
-    text R.Bad p b g = let z : _≡_ {A = ℕ} 0 1 = cc in absurd (omega arith)
-
 -- the name, its colon and the value's place are three bytes at least, and the colon stands inside the text
 pub name-inside : (s : List ℕ) (i q : ℕ) (v : Cursor) → nameAt s i ≡ N.At q v → (i + 3 ≤ length s) × (i + 3 ≤ v .at)
 unfolding colonAt
-name-inside s i q v e = go (subst (OnwardName i) e (name-onward s i)) (name-parts s i q v e) where
+name-inside s i q v e = go (subst (OnwardName i) e (name-onward s i)) (name-read s i q v e) where
   colon : (n : ℕ) (x : Read) → cond (eqb (byte s (skipBlanks s n)) 0x3A) (to (skipBlanks s (skipBlanks s n + 1))) R.Bad ≡ R.To v → skipBlanks s n < length s
   colon n x h =
       cond-elim (λ (r : Read). r ≡ R.To v → skipBlanks s n < length s) (eqb (byte s (skipBlanks s n)) 0x3A) _ _
       (λ b _. inside s (skipBlanks s n) 0x3A (sym (eqb-true _ _ b)) (omega arith)) (λ _ g. let z : _≡_ {A = ℕ} 0 1 = cc in absurd (omega arith)) h
 
-  go : OnwardName i (N.At q v) → Parts s i q v → (i + 3 ≤ length s) × (i + 3 ≤ v .at)
+  go : OnwardName i (N.At q v) → NameRead s i v → (i + 3 ≤ length s) × (i + 3 ≤ v .at)
   go (onward-name h k) p =
       let l = colon (p .end .at) R.Bad (p .colon) in
       let m = blanks-onward s (p .end .at) in
@@ -360,7 +341,7 @@ module _ (d : ℕ) (s : List ℕ) (i q : ℕ) (v c : Cursor) (en : nameAt s i �
     (f : afterItem s 0x7D (c .at) ≡ A.Bad → ⊥) where
   member-first : (m : Member) × (m .name ≡ i + 1) × (m .value ≡ v .at) × (membersFrom s i ≡ m ∷ membersFrom s (nextItem s (c .at)))
   member-first =
-      let p = name-parts s i q v en in
+      let p = name-read s i q v en in
       let w = value-read d s (v .at) c ev (after-scalar s 0x7D (c .at) brace-ends f) in (
         record { name = i + 1; quote = p .end .at - 1; value = v .at; end = c .at },
         refl,
@@ -404,18 +385,26 @@ module _ (s : List ℕ) (at base : ℕ) (names : Names) (places keys : List ℕ)
         → KeysAgree s places keys base (names .count) → KeysAgree s places′ keys′ base (names′ .count)
     unfolding KeysAgree
     kept-agree (kept e) f k h = go (ltb k (names .count)) refl where
+      v : ℕ
+      v = keptKey (take (names .count) (drop base keys)) (decodedFrom s at)
+
+      before : (k : ℕ) → k ≤ names .count → take k (drop base (set keys (base + names .count) v)) ≡ take k (drop base keys)
+      before k l = part-kept (kept-set (base + names .count) (base + names .count) keys v (omega arith)) base k (omega arith)
+
       go : (t : Bool) → ltb k (names .count) ≡ t
-          → getD (set keys (base + names .count) (keyOf (decodedFrom s at))) (base + k) 0 ≡ keyOf (decodedFrom s (getD (set places (base + names .count) at) (base + k) 0))
+          → getD (set keys (base + names .count) v) (base + k) 0
+          ≡ keptKey (take k (drop base (set keys (base + names .count) v))) (decodedFrom s (getD (set places (base + names .count) at) (base + k) 0))
       go true q =
           let l = ltb-true k (names .count) q in
           rw (
-            getD-set-other keys (base + names .count) (base + k) (keyOf (decodedFrom s at)) 0 (λ z. omega arith),
+            before k (omega arith),
+            getD-set-other keys (base + names .count) (base + k) v 0 (λ z. omega arith),
             getD-set-other places (base + names .count) (base + k) at 0 (λ z. omega arith),
           ) (f k l)
       go false q =
           let l = ltb-false k (names .count) q in
           let m : k ≡ names .count = omega arith in
-          rw (m, getD-set-same keys (base + names .count) (keyOf (decodedFrom s at)) 0 (fits′ (below e)), getD-set-same places (base + names .count) at 0 (fits (below e)))
+          rw (m, before (names .count) (omega arith), getD-set-same keys (base + names .count) v 0 (fits′ (below e)), getD-set-same places (base + names .count) at 0 (fits (below e)))
     kept-agree (refused e) f k h = f k h
 
     -- one member more, after the names kept

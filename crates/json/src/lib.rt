@@ -28,6 +28,12 @@ pub enum Named {
     Bad,
 }
 
+// The key to keep for a name that is new in its object, or that the name is known there.
+pub enum Fresh {
+    Key(u32),
+    Known,
+}
+
 // How many names of an object are kept, and whether the object, or one in it, has a name twice or too many members.
 pub struct Names {
     pub count: usize,

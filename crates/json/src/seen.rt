@@ -4,11 +4,13 @@ ghost use Prim.Native.Nat.{ℕ, _+_, _≤_, _<_};
 ghost use lib.ListN.{length};
 ghost use Rattle.limits.specs.Limits.{members};
 ghost use Rattle.decode.specs.Decode.{decodedFrom};
-ghost use Rattle.decode.specs.Same.{same, keyOf};
+ghost use Rattle.decode.specs.Same.{same, keyOf, secondKeyOf};
 ghost use Rattle.json.specs.Names.{has};
-ghost use Rattle.json.specs.Stack.{hasKey, namesOn, KeysAgree, NameKept};
+ghost use Rattle.json.specs.Stack.{hasKey, namesOn, IsKey, KeysAgree, freshKey, NameKept};
+use crate::Fresh;
 use crate::Names;
 use decode::same_text;
+use decode::second_key;
 use limits::Limits;
 
 pub(crate) fn either(a: bool, b: bool) -> bool
@@ -20,13 +22,16 @@ pub(crate) fn either(a: bool, b: bool) -> bool
     b
 }
 
-// The names at two places are the same. Their keys tell most apart.
-pub(crate) fn same_name(s: &[u8], a: usize, ka: u32, b: usize, kb: u32) -> bool
-    requires { ⌜ ka ≡ keyOf (decodedFrom (now s) a) ⌝ }
-    requires { ⌜ kb ≡ keyOf (decodedFrom (now s) b) ⌝ }
+// The names at two places are the same. The two keys of the one and the key kept for the other tell most apart.
+pub(crate) fn same_name(s: &[u8], a: usize, key: u32, second: u32, b: usize, kept: u32) -> bool
+    requires { ⌜ key ≡ keyOf (decodedFrom (now s) a) ⌝ }
+    requires { ⌜ second ≡ secondKeyOf (decodedFrom (now s) a) ⌝ }
+    requires { ⌜ IsKey (decodedFrom (now s) b) kept ⌝ }
     ensures { λ r. ⌜ r ≡ same (decodedFrom (now (s .entry)) a) (decodedFrom (now (s .entry)) b) ⌝ }
 {
-    if ka == kb {
+    let x = kept == key;
+    let y = kept == second;
+    if either(x, y) {
         return same_text(s, a, s, b);
     }
     false
@@ -46,17 +51,19 @@ pub(crate) fn has_key(keys: &[u32], key: u32) -> bool
     found
 }
 
-// The name at a place is among the n that are kept from base on, by looking at each.
+// The name at a place is among the n that are kept from base on.
 pub(crate) fn is_among(
     s: &[u8],
     at: usize,
     key: u32,
+    second: u32,
     places: &[usize],
     keys: &[u32],
     base: usize,
     n: usize,
 ) -> bool
     requires { ⌜ key ≡ keyOf (decodedFrom (now s) at) ⌝ }
+    requires { ⌜ second ≡ secondKeyOf (decodedFrom (now s) at) ⌝ }
     requires { ⌜ base + n ≤ length (now places) ⌝ }
     requires { ⌜ base + n ≤ length (now keys) ⌝ }
     requires { ⌜ KeysAgree (now s) (now places) (now keys) base n ⌝ }
@@ -67,15 +74,16 @@ pub(crate) fn is_among(
         k -= 1;
         let p = places[base + k];
         let q = keys[base + k];
-        if same_name(s, at, key, p, q) {
+        if same_name(s, at, key, second, p, q) {
             return true;
         }
     }
     false
 }
 
-// The name at a place is among the n that are kept from base on. A look at the keys alone answers most.
-pub(crate) fn is_known(
+// The name at a place is among the n that are kept from base on, or the key to keep for it. A look at the keys alone answers
+// most. A name whose key is among them is kept by its second key, so that names that share a key alone are seldom compared.
+pub(crate) fn fresh_key(
     s: &[u8],
     at: usize,
     key: u32,
@@ -83,18 +91,22 @@ pub(crate) fn is_known(
     keys: &[u32],
     base: usize,
     n: usize,
-) -> bool
+) -> Fresh
     requires { ⌜ key ≡ keyOf (decodedFrom (now s) at) ⌝ }
     requires { ⌜ base + n ≤ length (now places) ⌝ }
     requires { ⌜ base + n ≤ length (now keys) ⌝ }
     requires { ⌜ KeysAgree (now s) (now places) (now keys) base n ⌝ }
-    ensures { λ r. ⌜ r ≡ has (decodedFrom (now (s .entry)) at) (namesOn (now (s .entry)) (now (places .entry)) base n) ⌝ }
+    ensures { λ r. ⌜ r ≡ freshKey (now (s .entry)) at (now (places .entry)) (now (keys .entry)) base n ⌝ }
 {
     let end = base + n;
     if has_key(&keys[base..end], key) {
-        return is_among(s, at, key, places, keys, base, n);
+        let second = second_key(s, at);
+        if is_among(s, at, key, second, places, keys, base, n) {
+            return Fresh::Known;
+        }
+        return Fresh::Key(second);
     }
-    false
+    Fresh::Key(key)
 }
 
 // Keeps the name at a place after the n from base on, where it is not among them and n is below the limit, and counts it;
@@ -123,14 +135,15 @@ pub(crate) fn keep_name(
             bad: true,
         };
     }
-    if is_known(s, at, key, places, keys, base, n) {
+    let f = fresh_key(s, at, key, places, keys, base, n);
+    let Fresh::Key(k) = f else {
         return Names {
             count: n,
             bad: true,
         };
-    }
+    };
     places[base + n] = at;
-    keys[base + n] = key;
+    keys[base + n] = k;
     Names {
         count: n + 1,
         bad: bad,

@@ -1,4 +1,6 @@
 pub mod WalkLaws
 pub mod GatherLaws
 pub mod StepLaws
+pub mod EndLaws
+pub mod ReadLaws
 pub mod Theorem

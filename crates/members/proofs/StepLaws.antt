@@ -34,7 +34,7 @@ skip-value-onward s i =
     cond-elim (λ (n : ℕ). i ≤ n) (eqb (byte s i) 0x22) _ _ (λ _. omega (arith, quoted-onward s (i + 1)))
     (λ _. cond-elim (λ (n : ℕ). i ≤ n) (opens (byte s i)) _ _ (λ _. omega (arith, open-onward s 1 (i + 1))) (λ _. skip-onward scalar no-scalar s i))
 
-next-onward : (s : List ℕ) (i : ℕ) → i ≤ nextItem s i
+pub next-onward : (s : List ℕ) (i : ℕ) → i ≤ nextItem s i
 unfolding nextItem
 next-onward s i =
     let l = blanks-onward s i in

@@ -15,7 +15,7 @@ use Rattle.members.specs.declared.MemberStep.{MemberStep}
 use Rattle.members.specs.declared.MemberStep.the-variants as M
 use Rattle.members.specs.declared.ElementStep.{ElementStep}
 use Rattle.members.specs.declared.ElementStep.the-variants as E
-use Rattle.members.specs.Gather.{Step, found, stop, gather}
+use Rattle.members.specs.Gather.{Step, found, stop, gather, gatherEnd}
 
 -- after an item: past a comma and blanks, or at the close
 unfoldable pub nextItem : List ℕ → ℕ → ℕ
@@ -47,9 +47,16 @@ membersFrom s at = gather s (λ i. memberFound (memberStep s i)) at
 abbrev pub elementsFrom : List ℕ → ℕ → List Element
 elementsFrom s at = gather s (λ i. elementFound (elementStep s i)) at
 
+-- where the walk over members stops: in an object that was read, at its closing brace (proofs/ReadLaws.antt)
+abbrev pub membersEndFrom : List ℕ → ℕ → ℕ
+membersEndFrom s at = gatherEnd s (λ i. memberFound (memberStep s i)) at
+
 -- of the object and of the array at a place
 abbrev pub membersAt : List ℕ → ℕ → List Member
 membersAt s at = membersFrom s (skipBlanks s (at + 1))
+
+abbrev pub membersEnd : List ℕ → ℕ → ℕ
+membersEnd s at = membersEndFrom s (skipBlanks s (at + 1))
 
 abbrev pub elementsAt : List ℕ → ℕ → List Element
 elementsAt s at = elementsFrom s (skipBlanks s (at + 1))

@@ -147,7 +147,7 @@ pub fn skip_value(s: &[u8], at: usize) -> usize
 }
 
 // Past a comma and blanks, or at the close.
-pub(crate) fn next_item(s: &[u8], at: usize) -> usize
+pub fn next_item(s: &[u8], at: usize) -> usize
     ensures { λ r. ⌜ r ≡ nextItem (now (s .entry)) at ⌝ }
 {
     let c = Cursor { at: at }.skip_blanks(s);

@@ -11,11 +11,11 @@ use borrow.Author.Tests.{le-leb, leb-true, eq-eqb}
 use Rattle.table.specs.declared.Summary.{Summary}
 use Rattle.table.specs.Memory.{written}
 use Rattle.table.specs.Rows.{captureNumbers, annotationNumbers, flat, capturesOf, annotationsOf}
-use Rattle.table.specs.Table.{wellFormed}
+use Rattle.table.specs.Table.{wellFormed, refused}
 use Rattle.table.proofs.Bools.{and-left, and-right}
 use Rattle.table.proofs.TableLaws.{Formed, Numbers, formed, well-formed}
 use Rattle.cutting.specs.Pieces.{inside, wrote}
-use Rattle.cutting.specs.Cut.{Table, cut, cutSummary, cutCaptures, cutAnnotations, refused, cutAnswer}
+use Rattle.cutting.specs.Cut.{Table, cut, cutSummary, cutCaptures, cutAnnotations, cutAnswer}
 use Rattle.cutting.specs.Copy.{copyAnswer}
 use Rattle.cutting.proofs.PiecesLaws.{Inside, within, inside-true}
 use Rattle.cutting.proofs.SampleLaws.{length-bytes}

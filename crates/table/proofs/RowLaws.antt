@@ -36,11 +36,11 @@ module _ {A : Type 0} (at : ℕ → A) (n i : ℕ) where
       rw e
 
 -- ---- a row, number by number
-row-number : (w : ℕ) (m : List ℕ) (i k : ℕ) → w * i + w ≤ length m → k < w → getD (row w m i) k 0 ≡ getD m (w * i + k) 0
+pub row-number : (w : ℕ) (m : List ℕ) (i k : ℕ) → w * i + w ≤ length m → k < w → getD (row w m i) k 0 ≡ getD m (w * i + k) 0
 unfolding row
 row-number w m i k h q = rw (le-leb _ _ h) (getD-take w (drop (w * i) m) k 0 q ∙ getD-drop (w * i) m k 0)
 
-row-none : (w : ℕ) (m : List ℕ) (i : ℕ) → length m < w * i + w → row w m i ≡ []
+pub row-none : (w : ℕ) (m : List ℕ) (i : ℕ) → length m < w * i + w → row w m i ≡ []
 unfolding row
 row-none w m i h = rw (lt-leb _ _ h)
 
@@ -89,6 +89,15 @@ pub put-room : (w : ℕ) (m : List ℕ) (i : ℕ) (xs : List ℕ) → w * i + w 
 unfolding putRow
 put-room w m i xs h = rw (le-leb _ _ h)
 
+-- rows of w numbers each, as flat numbers
+pub length-flat : {A : Type 0} (numbers : A → List ℕ) (w : ℕ) → ((r : A) → length (numbers r) ≡ w) → (rs : List A) → length (flat numbers rs) ≡ w * length rs
+unfolding flat
+length-flat numbers w long [] = omega arith
+length-flat numbers w long (r ∷ t) =
+    let h = length-flat numbers w long t in
+    let z : w * suc (length t) ≡ w + w * length t = omega arith in
+    omega (arith, long r, length-append (numbers r) (flat numbers t))
+
 -- ---- rows written as numbers are read back
 module _ {A : Type 0} (w : ℕ) (of : List ℕ → A) (numbers : A → List ℕ) (long : (r : A) → length (numbers r) ≡ w) (back : (r : A) → of (numbers r) ≡ r) where
   -- the reading of row i
@@ -116,7 +125,7 @@ module _ {A : Type 0} (w : ℕ) (of : List ℕ → A) (numbers : A → List ℕ)
   later-rows r m zero i = refl
   later-rows r m (suc k) i = rw (later-row r m i, later-rows r m k (suc i))
 
-  rows-back : (rs : List A) (m : List ℕ) → rowsFrom (reads (flat numbers rs ++ m)) (length rs) 0 ≡ rs
+  pub rows-back : (rs : List A) (m : List ℕ) → rowsFrom (reads (flat numbers rs ++ m)) (length rs) 0 ≡ rs
   unfolding rowsFrom flat
   rows-back [] m = refl
   rows-back (r ∷ t) m = rw (append-assoc (numbers r) (flat numbers t) m, first-row r (flat numbers t ++ m), later-rows r (flat numbers t ++ m) (length t) 0, rows-back t m)

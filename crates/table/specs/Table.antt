@@ -71,6 +71,23 @@ rowsOk t caps notes =
 unfoldable pub wellFormed : Summary → List ℕ → List ℕ → Bool
 wellFormed t caps notes = eqb (t .refusal) 0 && formatOk t && countsOk t caps notes && sizesOk t caps && rowsOk t caps notes
 
+-- "A refusal gives that number, 0 in every other number of the answer"
+abbrev pub refused : ℕ → Summary
+refused n = record {
+  refusal = n;
+  datatype = 0;
+  channels = 0;
+  width = 0;
+  offset = 0;
+  trailing = 0;
+  samples = 0;
+  size = 0;
+  captures = 0;
+  annotations = 0;
+  rate = 0;
+  ratelen = 0;
+}
+
 -- what a well-formed table says of its captures, as the cores of the functions ask it
 pub record Laid (t : Summary) (caps : List ℕ) : Type 0 where
   pub fit : captureWidth * t .captures ≤ length caps

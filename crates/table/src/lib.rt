@@ -7,7 +7,7 @@ ghost use Rattle.limits.specs.Limits.{dataset};
 ghost use Rattle.table.specs.Memory.{putRow};
 ghost use Rattle.table.specs.Rows.{captureWidth, captureNumbers, captureAt, annotationWidth, annotationNumbers, annotationAt, rest, captures, capturesOf, annotations, annotationsOf};
 ghost use Rattle.table.specs.Samples.{headerSum, headersTo};
-ghost use Rattle.table.specs.Table.{nextStart, captureOk, capturesOk, textOk, textsOk, annotationOk, annotationsOk, formatOk, wellFormed, Laid};
+ghost use Rattle.table.specs.Table.{nextStart, captureOk, capturesOk, textOk, textsOk, annotationOk, annotationsOk, formatOk, wellFormed, refused, Laid};
 ghost use Rattle.table.specs.Judge.{numbersOk, layoutOk, summed};
 ghost use Rattle.table.specs.Locate.{isSample, placeIn, locateAnswer};
 use limits::Limits;
@@ -64,6 +64,26 @@ pub struct Located {
 struct Sum {
     ok: bool,
     total: u64,
+}
+
+// A refusal: its number and zeros.
+pub fn no_table(n: u64) -> Summary
+    ensures { λ r. ⌜ r ≡ refused n ⌝ }
+{
+    Summary {
+        refusal: n,
+        datatype: 0,
+        channels: 0,
+        width: 0,
+        offset: 0,
+        trailing: 0,
+        samples: 0,
+        size: 0,
+        captures: 0,
+        annotations: 0,
+        rate: 0,
+        ratelen: 0,
+    }
 }
 
 // Capture row i; zeros if the memory has no whole row i.

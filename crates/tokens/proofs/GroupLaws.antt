@@ -1,5 +1,5 @@
 -- Steps of the definitions of specs/Group.antt, on plain variables.
-use mathlib.Core.Path.{_≡_, sym, subst, _∙_}
+use mathlib.Core.Path.{_≡_, sym}
 use mathlib.Core.List.{List}
 use Prim.Native.Nat.{ℕ, _≤_, _<_, _+_, _-_}
 use native.Mathlib.Omega.{arith}
@@ -16,7 +16,7 @@ use Rattle.tokens.specs.declared.Name.the-variants as N
 use Rattle.tokens.specs.Text.{byte, skipBlanks}
 use Rattle.tokens.specs.String.{stringAt}
 use Rattle.tokens.specs.Group.{afterItem, colonAt, nameThen, nameAt}
-use Rattle.tokens.proofs.TextLaws.{inside, cond-elim, blanks-onward, Onward, on-to, on-bad, onward-is, onward-cond}
+use Rattle.tokens.proofs.TextLaws.{inside, cond-elim, blanks-onward, Onward, on-to, on-bad, onward-cond}
 use Rattle.tokens.proofs.StringLaws.{string-onward}
 
 -- ---- after an item; k is where the blanks end, b the byte there
@@ -62,10 +62,6 @@ module _ (s : List ℕ) (at b : ℕ) (eb : b ≡ byte s at) where
       pub name-to : (v : Cursor) → q ≡ R.To v → N.At (e .at - 1) v ≡ nameAt s at
       unfolding nameAt
       name-to v g = rw (← eb, eq-eqb _ _ h, ← er, ge, ← eq, g)
-
-      -- the string ends past its opening quote
-      pub name-end : at + 1 + 1 ≤ e .at
-      name-end = onward-is (subst (λ (x : Read). Onward (at + 1 + 1) x) (sym er ∙ ge) (string-onward s (at + 1)))
 
 -- ---- no reader goes back
 pub data OnwardAfter (s : List ℕ) (at : ℕ) : After → Type 0 where

@@ -1,9 +1,8 @@
 ghost use mathlib.Core.Path.{_≡_};
 ghost use Prim.Native.Nat.{ℕ, _<_};
-ghost use Rattle.tokens.specs.Group.{afterItem, colonAt, nameAt};
+ghost use Rattle.tokens.specs.Group.{afterItem, colonAt};
 use crate::After;
 use crate::Cursor;
-use crate::Name;
 use crate::Read;
 use crate::peek;
 
@@ -50,26 +49,5 @@ impl Cursor {
             return Read::To(d);
         }
         Read::Bad
-    }
-
-    // A member's name and its colon.
-    pub fn name(self, s: &[u8]) -> Name
-        ensures { λ r. ⌜ r ≡ nameAt (now (s .entry)) (self .at) ⌝ }
-    {
-        let at = self.at;
-        let b = peek(s, at);
-        if b == b'"' {
-            let r = Cursor { at: at + 1 }.string(s);
-            let Read::To(e) = r else {
-                return Name::Bad;
-            };
-            let q = e.colon(s);
-            let Read::To(v) = q else {
-                return Name::Bad;
-            };
-            let end = e.at;
-            return Name::At(end - 1, v);
-        }
-        Name::Bad
     }
 }

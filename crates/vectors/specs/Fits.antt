@@ -5,5 +5,5 @@ use lib.ListN.{length}
 use Rattle.vectors.specs.declared.line.Line.{Line}
 
 pub record Fits (l : Line) : Type 0 where
-  pub within : l .used ≤ 64
-  pub room : 64 ≡ length (l .bytes)
+  pub within : l .used ≤ 512
+  pub room : 512 ≡ length (l .bytes)

@@ -1,31 +1,55 @@
-// Answers cases about JSON texts and strings. Each case on standard input is a line of a letter, a space and the payload's
-// length, and then the payload; its answer is one line. Anything else ends the run with the line `stopped`.
-mod bodies;
+// Answers cases. Each case on standard input is a line of a letter, a space and the payload's length, and then the payload;
+// its answer is one line. Anything else ends the run with the line `stopped`. Payloads are those of second/README.md.
+mod body_cases;
+mod field_cases;
 mod frames;
+mod json_cases;
 mod line;
+mod listing_cases;
+mod memory;
+mod numbers;
+mod operations;
+mod parts;
+mod steps_cases;
 mod sum;
-mod texts;
+mod table_cases;
 
+use crate::body_cases::compare_parts;
+use crate::field_cases::answer_datatype;
+use crate::field_cases::answer_datetime;
+use crate::field_cases::answer_extension;
+use crate::field_cases::answer_form;
+use crate::field_cases::answer_name;
+use crate::field_cases::answer_types;
+use crate::field_cases::answer_uint;
+use crate::field_cases::answer_version;
 use crate::frames::Header;
 use crate::frames::read_header;
-use crate::line::Line;
-use limits::Limits;
+use crate::line::stop;
+use crate::listing_cases::answer_first_line;
+use crate::parts::front_bytes;
+use crate::table_cases::run_table;
+
+// The bytes of the longest payload: the numbers of a table's case and a metadata text one byte too long.
+const ROOM: usize = 127097;
 
 fn main() {
+    let mut room = [0u8; ROOM];
+    run_cases(&mut room);
+}
+
+fn run_cases(room: &mut [u8]) {
     let mut turns = u64::MAX;
-    while turns > 0 && run_case() {
+    while turns > 0 && run_case(room) {
         turns -= 1;
     }
 }
 
 // Runs one case, and answers whether to go on.
-fn run_case() -> bool {
+fn run_case(room: &mut [u8]) -> bool {
     let h = read_header();
     match h {
-        Header::Case(letter, n) => {
-            let mut room = [0u8; Limits::METADATA];
-            run_in(letter, &mut room, n)
-        }
+        Header::Case(letter, n) => run_in(letter, room, n),
         Header::End => false,
         Header::Broken => stop(),
     }
@@ -36,7 +60,7 @@ fn run_in(letter: u8, room: &mut [u8], n: usize) -> bool {
     if room.len() < n {
         return stop();
     }
-    run_on(letter, &mut room[..n])
+    run_on(letter, front_bytes(room, n as u64))
 }
 
 // Fills the payload from the input, where that has as many bytes.
@@ -49,19 +73,31 @@ fn run_on(letter: u8, payload: &mut [u8]) -> bool {
 }
 
 fn answer(letter: u8, payload: &[u8]) -> bool {
-    if letter == b'j' {
-        return texts::answer(payload).print();
+    match letter {
+        b'j' => json_cases::answer(payload).print(),
+        b's' => body_cases::answer(payload).print(),
+        b'e' => compare_parts(payload).print(),
+        b't' => run_table(letter, payload),
+        b'z' => run_table(letter, payload),
+        b'l' => run_table(letter, payload),
+        b'p' => run_table(letter, payload),
+        b'q' => answer_first_line(payload).print(),
+        _ => answer_field(letter, payload),
     }
-    if letter == b's' {
-        return bodies::answer(payload).print();
-    }
-    if letter == b'e' {
-        return bodies::compare_parts(payload).print();
-    }
-    stop()
 }
 
-fn stop() -> bool {
-    Line::new().word(b"stopped").print();
-    false
+fn answer_field(letter: u8, payload: &[u8]) -> bool {
+    match letter {
+        b'u' => answer_uint(payload).print(),
+        b'd' => answer_datatype(payload).print(),
+        b'v' => answer_version(payload).print(),
+        b'm' => answer_datetime(payload).print(),
+        b'k' => answer_types(payload).print(),
+        b'x' => answer_extension(payload).print(),
+        b'n' => answer_form(payload).print(),
+        b'g' => answer_name(letter, payload).print(),
+        b'c' => answer_name(letter, payload).print(),
+        b'a' => answer_name(letter, payload).print(),
+        _ => stop(),
+    }
 }

@@ -1,31 +1,22 @@
 //! Examples of the papers and small cases.
 
+mod field_cases;
 mod fields;
 mod json;
 mod listing;
+mod listing_cases;
 mod reader;
+mod reading_cases;
 mod steps;
+mod steps_cases;
 mod table;
 mod table_cases;
 
 use crate::reader::read;
 use crate::steps::State;
 use crate::table::Summary;
+pub use crate::reading_cases::{meta, G};
 pub use crate::table_cases::EXAMPLE;
-
-/// The two required fields, with W = 1.
-pub const G: &str = r#""core:datatype":"ru8","core:version":"1.0.0""#;
-
-/// A text of three parts; `$s` stands for core:sample_start, `$h` for
-/// core:header_bytes, `$c` for core:sample_count, `$l` for core:label.
-pub fn meta(global: &str, captures: &str, annotations: &str) -> String {
-    let short = format!(r#"{{"global":{{{global}}},"captures":[{captures}],"annotations":[{annotations}]}}"#);
-    let mut text = short;
-    for (mark, name) in [("$s", "sample_start"), ("$h", "header_bytes"), ("$c", "sample_count"), ("$l", "label")] {
-        text = text.replace(mark, &format!("\"core:{name}\""));
-    }
-    text
-}
 
 /// G and more global fields.
 pub fn with(more: &str) -> String {

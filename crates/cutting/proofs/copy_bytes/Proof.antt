@@ -9,7 +9,6 @@ use Rattle.cutting.proofs.copy_bytes.Statement.{statement}
 use Rattle.cutting.proofs.copy_bytes.Tie as tie
 use Rattle.cutting.proofs.copy_bytes.Reads as reads
 use Rattle.cutting.proofs.copy_bytes.Lts as lts
-use Rattle.cutting.proofs.move_bytes.Reads as move-bytes-reads
 use Rattle.cutting.proofs.move_chunk.Reads as move-chunk-reads
 
 abbrev Inv-loop : tie.InvT-loop
@@ -31,7 +30,7 @@ add-move-chunk-2 : tie.Need-add-move-chunk-2 Inv-loop μ-loop
 add-move-chunk-2 c = search needs
 
 move-chunk-requires : tie.Need-move-chunk-requires Inv-loop μ-loop
-move-chunk-requires c κs = (search needs, search part-room)
+move-chunk-requires c κs = (search needs, search needs, search part-room)
 
 add-j : tie.Need-add-j Inv-loop μ-loop
 add-j c = search needs
@@ -42,17 +41,17 @@ loop-less c = search needs
 loop-again : tie.Need-loop-again Inv-loop μ-loop
 loop-again c = (search needs, search part-on)
 
-add-move-bytes : tie.Need-add-move-bytes Inv-loop μ-loop
-add-move-bytes c = search needs
+add-move-chunk-3 : tie.Need-add-move-chunk-3 Inv-loop μ-loop
+add-move-chunk-3 c = search needs
 
-sub-move-bytes : tie.Need-sub-move-bytes Inv-loop μ-loop
-sub-move-bytes c = search needs
+sub-move-chunk : tie.Need-sub-move-chunk Inv-loop μ-loop
+sub-move-chunk c = search needs
 
-add-move-bytes-2 : tie.Need-add-move-bytes-2 Inv-loop μ-loop
-add-move-bytes-2 c = search needs
+add-move-chunk-4 : tie.Need-add-move-chunk-4 Inv-loop μ-loop
+add-move-chunk-4 c = search needs
 
-move-bytes-requires : tie.Need-move-bytes-requires Inv-loop μ-loop
-move-bytes-requires c κs = (search needs, search end-room)
+move-chunk-requires-2 : tie.Need-move-chunk-requires-2 Inv-loop μ-loop
+move-chunk-requires-2 c κs = (search needs, search needs, search end-room)
 
 same-length : tie.Need-same-length Inv-loop μ-loop
 same-length c = search end-long
@@ -74,9 +73,9 @@ copy-bytes-spec =
     add-j
     loop-less
     loop-again
-    add-move-bytes
-    sub-move-bytes
-    add-move-bytes-2
-    move-bytes-requires
+    add-move-chunk-3
+    sub-move-chunk
+    add-move-chunk-4
+    move-chunk-requires-2
     same-length
     returns)

@@ -12,7 +12,7 @@ use Rattle.cutting.proofs.cut.Lts as lts
 use Rattle.cutting.proofs.count_annotations.Reads as count-annotations-reads
 use Rattle.cutting.proofs.count_captures.Reads as count-captures-reads
 use Rattle.cutting.proofs.is_inside.Reads as is-inside-reads
-use Rattle.cutting.proofs.no_table.Reads as no-table-reads
+use Rattle.table.proofs.no_table.Reads as no-table-reads
 use Rattle.cutting.proofs.write_cut.Reads as write-cut-reads
 use Rattle.table.proofs.well_formed.Reads as well-formed-reads
 

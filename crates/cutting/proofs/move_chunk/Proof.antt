@@ -3,7 +3,6 @@ use lib.ListN.{length, getD, drop}
 use Prim.Native.Nat.{ℕ, _≤_, _<_, _-_, _+_, _*_}
 use mathlib.Core.Path.{_≡_, refl, sym, ap, _∙_}
 use Rattle.cutting.proofs.CopyCode.{through}
-use lib.ListN.{replicate, length-replicate}
 use borrow.Author.Needs.{needs}
 use Rattle.cutting.proofs.move_chunk.Statement.{statement}
 use Rattle.cutting.proofs.move_chunk.Tie as tie
@@ -27,7 +26,7 @@ same-length : tie.Need-same-length
 same-length c = search needs
 
 returns : tie.Need-returns
-returns c = through (c .before .before .before .before .before .before .before .before .before .before .args .out .now) (c .before .before .before .before .before .before .before .before .before .before .args .p) (c .before .before .before .before .before .before .before .before .before .before .args .bytes .now) (c .before .before .before .before .before .before .before .before .before .before .args .f) 16384 (replicate 16384 0) _ _ (length-replicate {A = ℕ} 16384 0) (c .before .before .before .before .before .before .before .before .before .before .pre .0) (c .before .before .before .before .before .before .move-bytes .ensures) (c .before .before .move-bytes2 .ensures)
+returns c = search through
 
 pub move-chunk-spec : {M : Type 1} → statement M
 move-chunk-spec =

@@ -14,11 +14,11 @@ Inv-loop s a t b at₀ k₀ bt₀ l₀ at k bt l = same (stream s at k) (stream 
 abbrev μ-loop : tie.MeasureT-loop
 μ-loop s a t b at₀ k₀ bt₀ l₀ at k bt l = length (stream s at k)
 
-plain-prefix-requires : tie.Need-plain-prefix-requires Inv-loop μ-loop
-plain-prefix-requires c κs = search needs
+alike-prefix-requires : tie.Need-alike-prefix-requires Inv-loop μ-loop
+alike-prefix-requires c κs = search needs
 
 loop-holds : tie.Need-loop-holds Inv-loop μ-loop
-loop-holds c = rw (stream-start (c .before .before .before .args .s .now) (c .plain-prefix .result .a), stream-start (c .before .before .before .args .t .now) (c .plain-prefix .result .b)) (c .plain-prefix .ensures)
+loop-holds c = rw (stream-start (c .before .before .before .args .s .now) (c .alike-prefix .result .a), stream-start (c .before .before .before .args .t .now) (c .alike-prefix .result .b)) (c .alike-prefix .ensures)
 
 next-byte-requires : tie.Need-next-byte-requires Inv-loop μ-loop
 next-byte-requires c κs = search needs
@@ -68,7 +68,7 @@ same-text-spec =
     (tie.spec
     Inv-loop
     μ-loop
-    plain-prefix-requires
+    alike-prefix-requires
     loop-holds
     next-byte-requires
     next-byte-requires-2

@@ -24,7 +24,7 @@ is-plain-requires : tie.Need-is-plain-requires Inv-loop μ-loop
 is-plain-requires c κs = search needs
 
 mix-requires : tie.Need-mix-requires Inv-loop μ-loop
-mix-requires c κs = (c .before .before .before .loop .inv .small)
+mix-requires c κs = (omega arith, (c .before .before .before .loop .inv .small))
 
 add-i : tie.Need-add-i Inv-loop μ-loop
 add-i c = omega (arith, plain-inside (c .before .before .before .before .before .before .args .s .now) (c .before .before .before .before .loop .i) _ (c .before .before .before .peek .ensures) (sym (c .before .before .is-plain .ensures) ∙ (c .before .if1 .taken)))

@@ -7,7 +7,7 @@ use Rattle.vectors.proofs.line.Line.word.Statement.{statement}
 use Rattle.vectors.proofs.line.Line.word.Tie as tie
 
 abbrev Inv-loop : tie.InvT-loop
-Inv-loop w bytes₀ n₀ i₀ bytes n i = (n ≤ 64) × (64 ≡ length bytes)
+Inv-loop w bytes₀ n₀ i₀ bytes n i = (n ≤ 512) × (512 ≡ length bytes)
 
 abbrev μ-loop : tie.MeasureT-loop
 μ-loop w bytes₀ n₀ i₀ bytes n i = length w - i

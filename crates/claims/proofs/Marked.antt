@@ -1,0 +1,193 @@
+-- The P lines hold of the definitions.
+use Prim.Native.Nat.{ℕ}
+use Prim.Native.String.{String}
+use mathlib.Core.Path.{_≡_, refl, ap, _∙_}
+use mathlib.Core.Bool.{Bool, true, false, cond, _||_}
+use mathlib.Core.List.{List, [], _∷_, _++_}
+use lib.ListN.{length, replicate}
+use lib.Dec.{eqb, ltb}
+use Rattle.limits.specs.Limits.{metadata, dataset, nesting}
+use Rattle.tokens.specs.Group.{afterItem, colonAt, nameAt}
+use Rattle.tokens.specs.Number.{digitsAt, integerAt, fractionAt, exponentAt, skipMinus, numberAt}
+use Rattle.tokens.specs.Run.{runTurns, run}
+use Rattle.tokens.specs.String.{shortEscape, escapeAt, characterAt, stringTurn, stringAt}
+use Rattle.tokens.specs.Text.{within, blank, skipTurn, skipWhile, byteWithin}
+use Rattle.grammar.specs.Reading.{itemTurn, itemsAt, groupAt, memberAt, anyValueAt, valueAt, isJson}
+use Rattle.grammar.specs.Skip.{skipStringTurn, skipString, scalar}
+use Rattle.decode.specs.Decode.{unitAt, utf8, decodedUnits, decodedFrom}
+use Rattle.decode.specs.Same.{same}
+use Rattle.members.specs.Gather.{gatherSteps, gather}
+use Rattle.members.specs.Members.{nextItem}
+use Rattle.json.specs.Names.{has, repeated, badNames, any}
+use Rattle.datatypes.specs.Datatypes.{twelve, datatypes, listed, rowOf, widthOf}
+use Rattle.texts.specs.Form.{nameByte, spaceByte, space, rest, formOk, formOf, pastSpace}
+use Rattle.texts.specs.Lookup.{place}
+use Rattle.texts.specs.Texts.{all, numberFrom}
+use Rattle.fields.specs.Names.{globals, captures, annotations, coreAt, typeAt}
+use Rattle.fields.specs.Values.{digitsFrom, uintOf, hasType}
+use Rattle.refusals.specs.Refusals.{Rule, rule, lowest}
+use Rattle.table.specs.declared.Summary.{Summary}
+use Rattle.table.specs.Memory.{written, row}
+use Rattle.table.specs.Rows.{captureNumbers, annotationNumbers, captureAt, annotationAt, rowsFrom, flat}
+use Rattle.table.specs.Table.{refused, nextStart, captureOk, capturesOk, textOk, textsOk, annotationOk, annotationsOk, formatOk, countsOk, sizesOk, rowsOk, wellFormed}
+use Rattle.table.specs.Samples.{headerSum, headersTo, place as placeTable}
+use Rattle.cutting.specs.Cut.{kept, cutSummary, cut}
+use Rattle.cutting.specs.Pieces.{put, runs, inside, piecesAnswer}
+use Rattle.layout.specs.Layout.{Contents, summaryOr, capturesIn, annotationsIn, headers, samplesIn, ascendingFrom, unordered, notWhole, allEntries, allNotes, outside, nextStart as nextStartLayout, captureRows, summaryIn, tooMany}
+use Rattle.layout.proofs.JudgeLaws.{numbered, lowest-then}
+use Rattle.layout.specs.declared.Count.the-variants as C
+use Rattle.objects.specs.Fields.{missing, valueFrom, misnamed, missingFrom, mistyped}
+use Rattle.objects.specs.Capture.{badDatetime}
+use Rattle.objects.specs.Global.{otherVersion, otherDatatype, badChannels, any as anyObjects, badExtension, needsExtension, noDataset}
+use Rattle.recording.specs.File.{File, topAt, namedFrom, allObjects, fileOf, contentsOf}
+use Rattle.recording.specs.Reading.{notJson, badMembers, inFile, contents, badLength, misshapen, rulesOf, readRefusal, readAnswer, capturesRead, annotationsRead}
+use Rattle.claims.specs.Marked.{metadataWith, capturesLent, annotationsLent, answer, captureRows as rowsOfCaptures, annotationRows, gives, pieces, marked, allHold}
+use Rattle.claims.proofs.Computing.{strictly, openSteps, valueEnd, nextMember, nextElement, membersOf, elementsOf, badBy, misshapenBy, fileBy, bad-is, misshapen-is, file-is}
+
+-- ---- the rules on what the text says, then those on samples and room
+abbrev early : List ℕ → Bool → Bool → File → List Rule
+early s bad shape f =
+    rule 2 (notJson s)
+    ∷ rule 3 bad
+    ∷ rule 4 shape
+    ∷ rule 5 (inFile misnamed misnamed misnamed f)
+    ∷ rule 6 (inFile (missing globals) (missing captures) (missing annotations) f)
+    ∷ rule 7 (inFile (mistyped globals) (mistyped captures) (mistyped annotations) f)
+    ∷ rule 8 (otherVersion (f .global))
+    ∷ rule 9 (otherDatatype (f .global))
+    ∷ rule 10 (badChannels (f .global))
+    ∷ rule 11 (anyObjects badDatetime (f .captures))
+    ∷ rule 12 (badExtension s (f .global))
+    ∷ rule 13 (needsExtension s (f .global))
+    ∷ rule 14 (noDataset (f .global))
+    ∷ []
+
+abbrev later : Contents → ℕ → List ℕ → List ℕ → List Rule
+later k d caps notes = rule 15 (unordered k) ∷ rule 16 (notWhole k d) ∷ rule 17 (outside k d) ∷ rule 20 (tooMany k caps notes) ∷ []
+
+-- a text of the contents k, by the walks that compute
+abbrev computed : List ℕ → File
+computed s = fileBy s (membersOf s) (elementsOf s)
+
+record Says (s : List ℕ) (k : Contents) : Type 0 where
+  long : eqb (length s) 0 || ltb metadata (length s) ≡ false
+  good : lowest (early s (badBy s (membersOf s) (elementsOf s) nesting (topAt s)) (misshapenBy s (membersOf s) (elementsOf s)) (computed s)) ≡ 0
+  said : contentsOf (computed s) ≡ k
+
+first : (n : ℕ) (b : Bool) (rs : List Rule) → b ≡ false → lowest (rule n b ∷ rs) ≡ lowest rs
+unfolding lowest
+first n b rs e = rw e
+
+module _ (s : List ℕ) (k : Contents) (S : Says s k) where
+  is-good : lowest (early s (badMembers s) (misshapen s) (fileOf s)) ≡ 0
+  is-good = rw (bad-is s nesting (topAt s), misshapen-is s, file-is s) (S .good)
+
+  contents-are : contents s ≡ k
+  contents-are = rw (file-is s) (S .said)
+
+  module _ (d : ℕ) (small : ltb dataset d ≡ false) (caps notes : List ℕ) where
+    fits : badLength s d ≡ false
+    unfolding badLength
+    fits = rw (S .long, small)
+
+    refusal-is : readRefusal s d caps notes ≡ lowest (later k d caps notes)
+    unfolding readRefusal rulesOf numbered
+    refusal-is =
+        first 1 (badLength s d) _ fits ∙ lowest-then (early s (badMembers s) (misshapen s) (fileOf s)) (later (contents s) d caps notes) refl is-good
+        ∙ ap (λ (c : Contents). lowest (later c d caps notes)) contents-are
+
+    answer-is : readAnswer s d caps notes ≡ summaryOr (lowest (later k d caps notes)) k d
+    unfolding readAnswer
+    answer-is = rw (refusal-is, contents-are)
+
+    captures-are : capturesRead s d caps notes ≡ cond (eqb (lowest (later k d caps notes)) 0) (written (flat captureNumbers (capturesIn k d)) caps) caps
+    unfolding capturesRead
+    captures-are = rw (refusal-is, contents-are)
+
+    annotations-are : annotationsRead s d caps notes ≡ cond (eqb (lowest (later k d caps notes)) 0) (written (flat annotationNumbers (annotationsIn k d)) notes) notes
+    unfolding annotationsRead
+    annotations-are = rw (refusal-is, contents-are)
+
+-- ---- 01's recording, with the count n of its annotation and the place of the label
+abbrev recording : ℕ → ℕ → Contents
+recording n label = record {
+  globals = record { datatype = 16; channels = 1; offset = 0; trailing = 0; rate = 0; ratelen = 0 };
+  captures = record { start = 0; header = 0 } ∷ record { start = 10; header = 8 } ∷ [];
+  annotations = record { start = 4; count = C.Given n; label = label; labellen = 29 } ∷ [];
+}
+
+texts : Says (metadataWith "2") (recording 2 219) × Says (metadataWith "21") (recording 21 220) × Says (metadataWith "22") (recording 22 220)
+unfolding metadataWith strictly openSteps valueEnd nextMember nextElement membersOf elementsOf badBy misshapenBy fileBy afterItem colonAt nameAt digitsAt integerAt fractionAt exponentAt skipMinus numberAt runTurns run shortEscape escapeAt characterAt stringTurn stringAt within blank skipTurn skipWhile byteWithin itemTurn itemsAt groupAt memberAt anyValueAt valueAt isJson skipStringTurn skipString scalar unitAt utf8 decodedUnits decodedFrom same gatherSteps gather nextItem has repeated badNames any twelve datatypes listed nameByte spaceByte space rest formOk formOf pastSpace place all numberFrom globals captures annotations coreAt typeAt digitsFrom uintOf hasType lowest badDatetime valueFrom misnamed missingFrom mistyped otherVersion otherDatatype badChannels anyObjects badExtension needsExtension noDataset namedFrom allObjects contentsOf
+texts = (record { long = refl; good = refl; said = refl }, record { long = refl; good = refl; said = refl }, record { long = refl; good = refl; said = refl })
+
+-- n samples and d bytes
+abbrev summary : ℕ → ℕ → Summary
+summary n d = record {
+  refusal = 0;
+  datatype = 16;
+  channels = 1;
+  width = 4;
+  offset = 0;
+  trailing = 0;
+  samples = n;
+  size = d;
+  captures = 2;
+  annotations = 1;
+  rate = 0;
+  ratelen = 0;
+}
+
+module _ (count : String) (n label : ℕ) (S : Says (metadataWith count) (recording n label)) (d : ℕ) (small : ltb dataset d ≡ false) where
+  abbrev low : ℕ
+  low = lowest (later (recording n label) d capturesLent annotationsLent)
+
+  answered : answer count d ≡ summaryOr low (recording n label) d
+  unfolding answer
+  answered = answer-is (metadataWith count) (recording n label) S d small capturesLent annotationsLent
+
+  captures-read : rowsOfCaptures count d ≡ cond (eqb low 0) (written (flat captureNumbers (capturesIn (recording n label) d)) capturesLent) capturesLent
+  unfolding rowsOfCaptures
+  captures-read = captures-are (metadataWith count) (recording n label) S d small capturesLent annotationsLent
+
+  annotations-read : annotationRows count d ≡ cond (eqb low 0) (written (flat annotationNumbers (annotationsIn (recording n label) d)) annotationsLent) annotationsLent
+  unfolding annotationRows
+  annotations-read = annotations-are (metadataWith count) (recording n label) S d small capturesLent annotationsLent
+
+record Answers : Type 0 where
+  at-108 : answer "2" 108 ≡ summary 25 108
+  captures-108 : rowsOfCaptures "2" 108 ≡ 0 ∷ 10 ∷ 0 ∷ 0 ∷ 10 ∷ 25 ∷ 48 ∷ 8 ∷ []
+  annotations-108 : annotationRows "2" 108 ≡ 4 ∷ 6 ∷ 219 ∷ 29 ∷ []
+  at-107 : answer "2" 107 ≡ refused 16
+  at-7 : answer "2" 7 ≡ refused 16
+  at-48 : answer "2" 48 ≡ summary 10 48
+  captures-48 : rowsOfCaptures "2" 48 ≡ 0 ∷ 10 ∷ 0 ∷ 0 ∷ 10 ∷ 10 ∷ 48 ∷ 8 ∷ []
+  at-44 : answer "2" 44 ≡ refused 17
+  count-22 : answer "22" 108 ≡ refused 17
+  count-21 : answer "21" 108 ≡ summary 25 108
+  deep : readAnswer (replicate 33 0x5B ++ replicate 33 0x5D) 108 [] [] ≡ refused 2
+
+answers : Answers
+unfolding lowest twelve datatypes rowOf widthOf flat headers samplesIn ascendingFrom unordered notWhole allEntries allNotes outside nextStartLayout captureRows summaryIn tooMany runTurns run blank skipTurn skipWhile itemTurn itemsAt groupAt anyValueAt valueAt isJson badLength rulesOf readRefusal readAnswer
+answers = record {
+  at-108 = answered "2" 2 219 (texts .0) 108 refl ∙ refl;
+  captures-108 = captures-read "2" 2 219 (texts .0) 108 refl ∙ refl;
+  annotations-108 = annotations-read "2" 2 219 (texts .0) 108 refl ∙ refl;
+  at-107 = answered "2" 2 219 (texts .0) 107 refl ∙ refl;
+  at-7 = answered "2" 2 219 (texts .0) 7 refl ∙ refl;
+  at-48 = answered "2" 2 219 (texts .0) 48 refl ∙ refl;
+  captures-48 = captures-read "2" 2 219 (texts .0) 48 refl ∙ refl;
+  at-44 = answered "2" 2 219 (texts .0) 44 refl ∙ refl;
+  count-22 = answered "22" 22 220 (texts .2) 108 refl ∙ refl;
+  count-21 = answered "21" 21 220 (texts .1) 108 refl ∙ refl;
+  deep = refl;
+}
+
+-- Document 01, "How far the promises go": "The P lines are proved of the definitions as one table under a single statement".
+pub marked-hold : allHold marked ≡ true
+unfolding allHold marked gives pieces same twelve datatypes listed rowOf widthOf row captureAt annotationAt rowsFrom flat headerSum headersTo placeTable nextStart captureOk capturesOk textOk textsOk annotationOk annotationsOk formatOk countsOk sizesOk rowsOk wellFormed kept cutSummary cut put runs inside piecesAnswer
+marked-hold =
+    rw (answers .at-108, answers .captures-108, answers .annotations-108, answers .at-107, answers .at-7, answers .at-48, answers .captures-48, answers .at-44, answers .count-22, answers .count-21, answers .deep)
+
+-- Document 01, "How far the promises go": neither "refusing everything, or one fixed answer"
+pub some-accepted : (answer "2" 108 .refusal ≡ 0) × (answer "2" 107 .refusal ≡ 16)
+some-accepted = (ap (λ (t : Summary). t .refusal) (answers .at-108), ap (λ (t : Summary). t .refusal) (answers .at-107))

@@ -1,0 +1,40 @@
+-- Whole numbers in decimal: digits in ASCII, and the number that digits write.
+use Prim.Native.Nat.{ℕ, zero, suc, _+_, _-_, _*_, _/_, _%_}
+use mathlib.Core.Bool.{Bool, true, _&&_, cond}
+use mathlib.Core.List.{List, [], _∷_, _++_}
+use lib.ListN.{length, drop}
+use lib.Dec.{leb, ltb}
+
+-- the digits of n, which has at most k
+unfoldable pub digitsBy : ℕ → ℕ → List ℕ
+digitsBy zero n = []
+digitsBy (suc k) n = cond (ltb n 10) ((0x30 + n) ∷ []) (digitsBy k (n / 10) ++ ((0x30 + n % 10) ∷ []))
+
+-- the digits of n, with no 0 before others; `0` for 0. A number has no more digits than n + 1.
+unfoldable pub digitsOf : ℕ → List ℕ
+digitsOf n = digitsBy (suc n) n
+
+-- the number that digits write, after those that make n
+unfoldable pub numberFrom : ℕ → List ℕ → ℕ
+numberFrom n [] = n
+numberFrom n (b ∷ l) = numberFrom (n * 10 + (b - 0x30)) l
+
+abbrev pub numberOf : List ℕ → ℕ
+numberOf l = numberFrom 0 l
+
+-- every byte is good
+unfoldable pub all : (ℕ → Bool) → List ℕ → Bool
+all good [] = true
+all good (b ∷ l) = good b && all good l
+
+-- ---- bytes put to the front of lent memory, all or none
+abbrev pub fits : List ℕ → List ℕ → Bool
+fits xs m = leb (length xs) (length m)
+
+-- how many were put
+unfoldable pub putCount : List ℕ → List ℕ → ℕ
+putCount xs m = cond (fits xs m) (length xs) 0
+
+-- the memory after it
+unfoldable pub putFront : List ℕ → List ℕ → List ℕ
+putFront xs m = cond (fits xs m) (xs ++ drop (length xs) m) m

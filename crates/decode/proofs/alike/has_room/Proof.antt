@@ -1,0 +1,27 @@
+use native.Mathlib.Omega.{arith}
+use lib.ListN.{length, getD, drop}
+use Prim.Native.Nat.{ℕ, _≤_, _<_, _-_, _+_, _*_}
+use mathlib.Core.Path.{_≡_, refl, sym, ap, _∙_}
+use native.Mathlib.Omega.{arith}
+use lib.ListN.{length}
+use Prim.Native.Nat.{_+_}
+use mathlib.Core.Path.{_≡_, refl, sym, _∙_}
+use borrow.Author.Tests.{lt-leb}
+use Rattle.decode.proofs.PlainLaws.{room-is}
+use borrow.Author.Needs.{needs}
+use Rattle.decode.proofs.alike.has_room.Statement.{statement}
+use Rattle.decode.proofs.alike.has_room.Tie as tie
+use Rattle.decode.proofs.alike.has_room.Reads as reads
+use Rattle.decode.proofs.alike.has_room.Lts as lts
+
+returns : tie.Need-returns
+returns c = sym (lt-leb ((c .before .args .i) + (c .before .args .n)) (length (c .before .args .s .now)) (omega arith))
+
+sub-result : tie.Need-sub-result
+sub-result c = search needs
+
+returns-2 : tie.Need-returns-2
+returns-2 c = room-is _ _ _ (c .if1 .left)
+
+pub has-room-spec : {M : Type 1} → statement M
+has-room-spec = tie.close (tie.spec returns sub-result returns-2)

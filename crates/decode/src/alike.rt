@@ -1,0 +1,99 @@
+ghost use mathlib.Core.Path.{_≡_};
+ghost use mathlib.Core.Bool.{_&&_};
+ghost use Prim.Native.Nat.{_+_, _<_, _≤_};
+ghost use lib.ListN.{length};
+ghost use lib.Dec.{leb};
+ghost use Rattle.decode.specs.Decode.{decodedFrom};
+ghost use Rattle.decode.specs.Plain.{ordinary, alike};
+ghost use Rattle.decode.specs.Same.{same};
+use crate::Places;
+
+// How many bytes are compared at once.
+const BLOCK: usize = 16;
+
+// A byte of a string that stands for itself: no quote and no backslash.
+pub(crate) fn is_ordinary(b: u8) -> bool
+    ensures { λ r. ⌜ r ≡ ordinary b ⌝ }
+{
+    if b == b'"' {
+        return false;
+    }
+    if b == b'\\' {
+        return false;
+    }
+    true
+}
+
+pub(crate) fn both(a: bool, b: bool) -> bool
+    ensures { λ r. ⌜ r ≡ (a && b) ⌝ }
+{
+    if a {
+        return b;
+    }
+    false
+}
+
+// The same n bytes stand at two places, each for itself. No byte ends the loop, so that it is compiled to a comparison of them all.
+pub(crate) fn are_alike(s: &[u8], i: usize, t: &[u8], j: usize, n: usize) -> bool
+    requires { ⌜ i + n ≤ length (now s) ⌝ }
+    requires { ⌜ j + n ≤ length (now t) ⌝ }
+    ensures { λ r. ⌜ r ≡ alike n (now (s .entry)) i (now (t .entry)) j ⌝ }
+{
+    let mut ok = true;
+    let mut k = 0usize;
+    while k < n {
+        let x = s[i + k];
+        let y = t[j + k];
+        let e = x == y;
+        let o = is_ordinary(x);
+        let p = both(e, o);
+        ok = both(ok, p);
+        k += 1;
+    }
+    ok
+}
+
+// A text has n bytes from a place on.
+pub(crate) fn has_room(s: &[u8], i: usize, n: usize) -> bool
+    ensures { λ r. ⌜ r ≡ leb (i + n) (length (now (s .entry))) ⌝ }
+{
+    if s.len() < n {
+        return false;
+    }
+    i <= s.len() - n
+}
+
+// Past the bytes that two strings begin with alike, n at a time.
+pub(crate) fn skip_alike(s: &[u8], a: usize, t: &[u8], b: usize, n: usize) -> Places
+    requires { ⌜ 0 < n ⌝ }
+    ensures { λ r. ⌜ same (decodedFrom (now (s .entry)) (r .a)) (decodedFrom (now (t .entry)) (r .b)) ≡ same (decodedFrom (now (s .entry)) a) (decodedFrom (now (t .entry)) b) ⌝ }
+{
+    let mut i = a;
+    let mut j = b;
+    loop {
+        if has_room(s, i, n) {
+            if has_room(t, j, n) {
+                if are_alike(s, i, t, j, n) {
+                    i += n;
+                    j += n;
+                } else {
+                    return Places { a: i, b: j };
+                }
+            } else {
+                return Places { a: i, b: j };
+            }
+        } else {
+            return Places { a: i, b: j };
+        }
+    }
+}
+
+// Past the bytes that two strings begin with alike, each of which stands for itself.
+pub(crate) fn alike_prefix(s: &[u8], a: usize, t: &[u8], b: usize) -> Places
+    ensures { λ r. ⌜ same (decodedFrom (now (s .entry)) (r .a)) (decodedFrom (now (t .entry)) (r .b)) ≡ same (decodedFrom (now (s .entry)) a) (decodedFrom (now (t .entry)) b) ⌝ }
+{
+    let p = skip_alike(s, a, t, b, BLOCK);
+    let i = p.a;
+    let j = p.b;
+    skip_alike(s, i, t, j, 1)
+}

@@ -1,0 +1,4 @@
+pub mod ValueLaws
+pub mod NameLaws
+pub mod ExtensionLaws
+pub mod Edges

@@ -1,0 +1,78 @@
+-- Steps of the definitions of specs/Values.antt, on plain variables.
+use mathlib.Core.Path.{_≡_, refl, sym, _∙_}
+use mathlib.Core.Bool.{Bool, true, false, cond, _&&_}
+use mathlib.Core.List.{List, [], _∷_}
+use Prim.Native.Nat.{ℕ, _≤_, _<_, _+_, _-_, _*_, _^_}
+use native.Mathlib.Omega.{arith}
+use native.Mathlib.Numerals.{add-one}
+use lib.ListN.{length, take, drop, drop-of-length-le, length-drop}
+use lib.Seq.{drop-cons, drop-length, take-all, take-nil}
+use lib.Dec.{ltb}
+use borrow.Author.Tests.{eq-eqb, ne-eqb, lt-ltb, le-ltb}
+use Rattle.tokens.specs.Text.{byte}
+use Rattle.tokens.specs.Number.{digit}
+use Rattle.fields.specs.declared.Uint.{Uint}
+use Rattle.fields.specs.declared.Uint.the-variants as U
+use Rattle.texts.specs.Texts.{all, numberFrom}
+use Rattle.fields.specs.Values.{partOf, digitsFrom, uintOf}
+
+-- ---- a part of a text
+module _ (s : List ℕ) (at end : ℕ) where
+  pub part-over : length s ≤ at → take (length s - length s) (drop (length s) s) ≡ partOf s at end
+  part-over h = rw (drop-length s, drop-of-length-le s h, take-nil (length s - length s), take-nil (end - at))
+
+  pub part-none : end ≤ at → take (length s - length s) (drop (length s) s) ≡ partOf s at end
+  part-none h = let z : end - at ≡ 0 = omega arith in rw (drop-length s, take-nil (length s - length s), z)
+
+  pub part-rest : length s ≤ end → take (length s - at) (drop at s) ≡ partOf s at end
+  part-rest h =
+      take-all (length s - at) (drop at s) (omega (arith, length-drop at s)) ∙ sym (take-all (end - at) (drop at s) (omega (arith, length-drop at s)))
+
+-- more digits make no smaller number
+number-onward : (n : ℕ) (l : List ℕ) → n ≤ numberFrom n l
+unfolding numberFrom
+number-onward n [] = omega arith
+number-onward n (b ∷ l) = omega (arith, number-onward (n * 10 + (b - 0x30)) l)
+
+too-large : (m : ℕ) (l : List ℕ) → 2 ^ 64 ≤ m → U.Bad ≡ digitsFrom m l
+unfolding digitsFrom
+too-large m l q = let k = number-onward m l in go (all digit l) (le-ltb (numberFrom m l) (2 ^ 64) (omega arith)) where
+  go : (t : Bool) → ltb (numberFrom m l) (2 ^ 64) ≡ false → U.Bad ≡ cond (t && ltb (numberFrom m l) (2 ^ 64)) (U.Value (numberFrom m l)) U.Bad
+  go true e = rw e
+  go false e = refl
+
+-- ---- the digits of p from i on, after those that make n
+module _ (p : List ℕ) (n i : ℕ) where
+  pub digits-end : length p ≤ i → n < 2 ^ 64 → U.Value n ≡ digitsFrom n (drop i p)
+  unfolding digitsFrom all numberFrom
+  digits-end h l = rw (drop-of-length-le p h, lt-ltb _ _ l)
+
+  module _ (h : i < length p) where
+    pub digits-not : digit (byte p i) ≡ false → U.Bad ≡ digitsFrom n (drop i p)
+    unfolding digitsFrom all
+    digits-not e = rw (drop-cons p i 0 h, e)
+
+    pub digits-on : (m : ℕ) → m ≡ n * 10 + (byte p i - 0x30) → digit (byte p i) ≡ true → digitsFrom m (drop (i + 1) p) ≡ digitsFrom n (drop i p)
+    unfolding digitsFrom all numberFrom
+    digits-on m q e = rw (add-one i, drop-cons p i 0 h, e, q)
+
+    pub digits-over : 2 ^ 64 ≤ n * 10 + (byte p i - 0x30) → digit (byte p i) ≡ true → U.Bad ≡ digitsFrom n (drop i p)
+    digits-over q e = too-large (n * 10 + (byte p i - 0x30)) (drop (i + 1) p) q ∙ digits-on _ refl e
+
+module _ (p : List ℕ) where
+  pub uint-empty : length p ≡ 0 → U.Bad ≡ uintOf p
+  unfolding uintOf
+  uint-empty h = rw (eq-eqb _ _ h)
+
+  module _ (h : length p ≡ 0 → ⊥) where
+    pub uint-zeros : byte p 0 ≡ 0x30 → 1 < length p → U.Bad ≡ uintOf p
+    unfolding uintOf
+    uint-zeros e l = rw (ne-eqb _ _ h, eq-eqb _ _ e, lt-ltb _ _ l)
+
+    pub uint-zero : (r : Uint) → byte p 0 ≡ 0x30 → length p ≤ 1 → r ≡ digitsFrom 0 p → r ≡ uintOf p
+    unfolding uintOf
+    uint-zero r e l q = rw (ne-eqb _ _ h, eq-eqb _ _ e, le-ltb _ _ l) q
+
+    pub uint-digits : (r : Uint) → (byte p 0 ≡ 0x30 → ⊥) → r ≡ digitsFrom 0 p → r ≡ uintOf p
+    unfolding uintOf
+    uint-digits r e q = rw (ne-eqb _ _ h, ne-eqb _ _ e) q

@@ -1,0 +1,52 @@
+-- The type of one value, "judged on the part of the text that holds it, and on no other byte" (document 01, "The JSON text"):
+-- p is that part, from the value's first byte to its last.
+use mathlib.Core.Bool.{Bool, true, false, cond, _&&_, _||_}
+use mathlib.Core.List.{List}
+use Prim.Native.Nat.{ℕ, _-_, _^_}
+use lib.ListN.{length, take, drop}
+use lib.Dec.{eqb, ltb}
+use Rattle.tokens.specs.Text.{byte}
+use Rattle.tokens.specs.Number.{digit}
+use Rattle.texts.specs.Texts.{all, numberFrom}
+use Rattle.fields.specs.declared.Uint.{Uint}
+use Rattle.fields.specs.declared.Uint.the-variants as U
+use Rattle.fields.specs.declared.FieldType.{FieldType}
+use Rattle.fields.specs.declared.FieldType.the-variants as T
+
+-- the bytes of s from a place up to another, as far as s goes
+abbrev pub partOf : List ℕ → ℕ → ℕ → List ℕ
+partOf s at end = take (end - at) (drop at s)
+
+-- "A uint is digits only, .. at most 2^64 − 1"
+unfoldable pub digitsFrom : ℕ → List ℕ → Uint
+digitsFrom n l = cond (all digit l && ltb (numberFrom n l) (2 ^ 64)) (U.Value (numberFrom n l)) U.Bad
+
+-- "as JSON writes them": one at least, and no 0 before another
+unfoldable pub uintOf : List ℕ → Uint
+uintOf p = cond (eqb (length p) 0) U.Bad (cond (eqb (byte p 0) 0x30 && ltb 1 (length p)) U.Bad (digitsFrom 0 p))
+
+abbrev pub isValue : Uint → Bool
+isValue (U.Value n) = true
+isValue U.Bad = false
+
+-- the first byte of a number, and that of true or false
+abbrev pub numberByte : ℕ → Bool
+numberByte b = eqb b 0x2D || digit b
+
+abbrev pub booleanByte : ℕ → Bool
+booleanByte b = eqb b 0x74 || eqb b 0x66
+
+-- The types of 01, "Fields". What a value of a JSON text is shows by its first byte: a quote, a minus or a digit, the t of true
+-- or the f of false, a brace, a bracket. "`null` is never a match for a typed core field": no type but `Any` takes an n.
+unfoldable pub hasType : FieldType → List ℕ → Bool
+hasType T.Text p = eqb (byte p 0) 0x22
+hasType T.Uint p = isValue (uintOf p)
+hasType T.Double p = numberByte (byte p 0)
+hasType T.Boolean p = booleanByte (byte p 0)
+hasType T.Object p = eqb (byte p 0) 0x7B
+hasType T.Array p = eqb (byte p 0) 0x5B
+hasType T.Any p = true
+
+-- of a boolean's part
+abbrev pub isTrue : List ℕ → Bool
+isTrue p = eqb (byte p 0) 0x74

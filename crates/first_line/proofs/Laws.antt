@@ -1,0 +1,128 @@
+-- Laws of the first line.
+use Prim.Native.Nat.{ℕ, _+_, _-_, _*_, _^_, _≤_, _<_}
+use mathlib.Core.Path.{_≡_, refl, sym, ap, _∙_}
+use mathlib.Core.Bool.{Bool, true, false, _&&_, false≢true}
+use mathlib.Core.List.{List, [], _∷_}
+use native.Mathlib.Omega.{arith}
+use native.Mathlib.Numerals.{add-one}
+use lib.ListN.{length, take, drop, drop-of-length-le, length-take}
+use lib.Seq.{drop-cons, getD-take}
+use lib.Dec.{eqb, leb}
+use borrow.Author.Tests.{le-leb, lt-leb, eq-eqb, ne-eqb, eqb-true}
+use Rattle.tokens.specs.Text.{byte, within}
+use Rattle.tokens.specs.Number.{digit, skipDigits}
+use Rattle.tokens.proofs.TextLaws.{inside, cond-elim, within-above, good-inside, skip-on, skip-out, skip-onward}
+use Rattle.tokens.proofs.NumberLaws.{no-digit}
+use Rattle.decimal.specs.Decimal.{numberFrom}
+use Rattle.first_line.specs.declared.FirstLine.{FirstLine}
+use Rattle.first_line.specs.declared.FirstLine.the-variants.{Size, Other}
+use Rattle.first_line.specs.FirstLine.{digitCount, leadingNumber, isFirstLine, firstLine}
+
+and-none : (a : Bool) → a && false ≡ false
+and-none true = refl
+and-none false = refl
+
+-- ---- lines of another form
+module _ (s : List ℕ) where
+  too-few : digitCount s < 1 → Other ≡ firstLine s
+  unfolding firstLine isFirstLine within
+  too-few h = rw (lt-leb _ _ h)
+
+  too-many : 20 < digitCount s → Other ≡ firstLine s
+  unfolding firstLine isFirstLine
+  too-many h = rw (within-above 1 20 (digitCount s) h)
+
+  no-feed : (byte s (digitCount s) ≡ 0x0A → ⊥) → Other ≡ firstLine s
+  unfolding firstLine isFirstLine
+  no-feed h = rw (ne-eqb _ _ h, and-none (within 1 20 (digitCount s)))
+
+  too-large : 2 ^ 64 - 1 < leadingNumber s → Other ≡ firstLine s
+  unfolding firstLine isFirstLine
+  too-large h = rw (lt-leb _ _ h, and-none (within 1 20 (digitCount s) && eqb (byte s (digitCount s)) 0x0A))
+
+-- more digits make no smaller number
+number-onward : (n : ℕ) (l : List ℕ) → n ≤ numberFrom n l
+unfolding numberFrom
+number-onward n [] = omega arith
+number-onward n (b ∷ l) = omega (arith, number-onward (n * 10 + (b - 0x30)) l)
+
+-- ---- i digits were read, which write n
+pub record Reading (s : List ℕ) (n i : ℕ) : Type 0 where
+  pub few : i ≤ 20
+  pub small : n < 2 ^ 64
+  pub count : skipDigits s i ≡ digitCount s
+  pub value : numberFrom n (drop i (take (digitCount s) s)) ≡ leadingNumber s
+
+pub read-begin : (s : List ℕ) → Reading s 0 0
+read-begin s = record { few = omega arith; small = omega arith; count = refl; value = refl }
+
+module _ (s : List ℕ) (n i : ℕ) (S : Reading s n i) (b : ℕ) (z : b ≡ byte s i) where
+  -- a digit more
+  module _ (h : digit b ≡ true) where
+    within-count : i < digitCount s
+    within-count = omega (arith, skip-onward digit no-digit s (i + 1), skip-on digit no-digit s i b z h, S .count)
+
+    next-is : drop i (take (digitCount s) s) ≡ b ∷ drop (i + 1) (take (digitCount s) s)
+    next-is =
+        let l = good-inside digit no-digit s i b z h in
+        let w = within-count in
+        rw (add-one i, z) (drop-cons (take (digitCount s) s) i 0 (omega (arith, length-take (digitCount s) s)) ∙ rw (getD-take (digitCount s) s i 0 w))
+
+    pub read-many : 20 ≤ i → Other ≡ firstLine s
+    read-many g = too-many s (omega (arith, within-count))
+
+    value-on : numberFrom (n * 10 + (b - 0x30)) (drop (i + 1) (take (digitCount s) s)) ≡ leadingNumber s
+    unfolding numberFrom
+    value-on = ap (numberFrom n) (sym next-is) ∙ S .value
+
+    pub read-over : 2 ^ 64 ≤ n * 10 + (b - 0x30) → Other ≡ firstLine s
+    read-over g = too-large s (omega (arith, value-on, number-onward (n * 10 + (b - 0x30)) (drop (i + 1) (take (digitCount s) s))))
+
+    pub read-on : n * 10 + (b - 0x30) < 2 ^ 64 → i < 20 → Reading s (n * 10 + (b - 0x30)) (i + 1)
+    read-on g k = record { few = omega arith; small = g; count = skip-on digit no-digit s i b z h ∙ S .count; value = value-on }
+
+  -- no digit: all are read
+  module _ (h : digit b ≡ false) where
+    last-is : i ≡ digitCount s
+    last-is = skip-out digit no-digit s i b z h ∙ S .count
+
+    number-is : n ≡ leadingNumber s
+    unfolding numberFrom
+    number-is = ap (numberFrom n) (sym (drop-of-length-le (take (digitCount s) s) {i = i} (omega (arith, last-is, length-take (digitCount s) s)))) ∙ S .value
+
+    pub read-none : i < 1 → Other ≡ firstLine s
+    read-none g = too-few s (omega (arith, last-is))
+
+    pub read-other : (b ≡ 0x0A → ⊥) → Other ≡ firstLine s
+    read-other g = no-feed s (λ e. g (z ∙ ap (byte s) last-is ∙ e))
+
+    pub read-feed : 1 ≤ i → b ≡ 0x0A → Size n (i + 1) ≡ firstLine s
+    unfolding firstLine isFirstLine within
+    read-feed g e =
+        let f : byte s (digitCount s) ≡ 0x0A = ap (byte s) (sym last-is) ∙ sym z ∙ e in
+        let p : 1 ≤ digitCount s = omega (arith, last-is) in
+        let q : digitCount s ≤ 20 = omega (arith, last-is, S .few) in
+        let v : leadingNumber s ≤ 2 ^ 64 - 1 = omega (arith, number-is, S .small) in
+        rw (le-leb _ _ p, le-leb _ _ q, eq-eqb _ _ f, le-leb _ _ v, number-is, last-is)
+
+-- ---- the rest of the input begins inside it
+and-first : (a b : Bool) → a && b ≡ true → a ≡ true
+and-first true b e = refl
+and-first false b e = e
+
+and-second : (a b : Bool) → a && b ≡ true → b ≡ true
+and-second true b e = e
+and-second false b e = absurd (false≢true e)
+
+feed-inside : (s : List ℕ) → isFirstLine s ≡ true → digitCount s < length s
+unfolding isFirstLine
+feed-inside s e =
+    let f = and-second (within 1 20 (digitCount s)) (eqb (byte s (digitCount s)) 0x0A)
+    (and-first (within 1 20 (digitCount s) && eqb (byte s (digitCount s)) 0x0A) (leb (leadingNumber s) (2 ^ 64 - 1)) e) in
+    inside s (digitCount s) 0x0A (sym (eqb-true _ _ f)) (omega arith)
+
+pub line-inside : (s : List ℕ) (d at : ℕ) → firstLine s ≡ Size d at → at ≤ length s
+unfolding firstLine
+line-inside s d at e =
+    cond-elim (λ (r : FirstLine). r ≡ Size d at → at ≤ length s) (isFirstLine s) _ _
+    (λ b h. let z : digitCount s + 1 ≡ at = cc in omega (arith, feed-inside s b)) (λ _ h. let z : _≡_ {A = ℕ} 0 1 = cc in absurd (omega arith)) e

@@ -1,0 +1,27 @@
+-- Document 01, "The listing": "The program reads D on standard input's first line (1 to 20 digits and a line feed), then the
+-- metadata; any other first line prints `refused 1`".
+use Prim.Native.Nat.{ℕ, _+_, _-_, _^_}
+use mathlib.Core.Bool.{Bool, _&&_, cond}
+use mathlib.Core.List.{List}
+use lib.ListN.{take}
+use lib.Dec.{leb, eqb}
+use Rattle.tokens.specs.Text.{byte, within}
+use Rattle.tokens.specs.Number.{skipDigits}
+use Rattle.decimal.specs.Decimal.{numberOf}
+use Rattle.first_line.specs.declared.FirstLine.{FirstLine}
+use Rattle.first_line.specs.declared.FirstLine.the-variants.{Size, Other}
+
+-- how many digits the input begins with, and the number that they write
+abbrev pub digitCount : List ℕ → ℕ
+digitCount s = skipDigits s 0
+
+abbrev pub leadingNumber : List ℕ → ℕ
+leadingNumber s = numberOf (take (digitCount s) s)
+
+-- "1 to 20 digits and a line feed"; D is a u64
+unfoldable pub isFirstLine : List ℕ → Bool
+isFirstLine s = within 1 20 (digitCount s) && eqb (byte s (digitCount s)) 0x0A && leb (leadingNumber s) (2 ^ 64 - 1)
+
+-- D, and the place past the line feed
+unfoldable pub firstLine : List ℕ → FirstLine
+firstLine s = cond (isFirstLine s) (Size (leadingNumber s) (digitCount s + 1)) Other

@@ -1,0 +1,4 @@
+pub mod LineLaws
+pub mod RecoverLaws
+pub mod Theorem
+pub mod Example

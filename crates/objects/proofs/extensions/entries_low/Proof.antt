@@ -1,0 +1,82 @@
+use borrow.Author.Needs.{needs}
+use native.Mathlib.Omega.{arith}
+use lib.ListN.{length}
+use Prim.Native.Nat.{_-_}
+use mathlib.Core.Path.{_≡_, sym, _∙_}
+use Rattle.objects.proofs.ExtensionLaws.{entriesLow, entriesFrom, entry-past, entries-on, entries-over, entries-begin, entries-absent, entries-past, entries-are}
+use Rattle.refusals.specs.Refusals.{least}
+use Rattle.objects.proofs.extensions.entries_low.Statement.{statement}
+use Rattle.objects.proofs.extensions.entries_low.Tie as tie
+
+abbrev Inv-loop : tie.InvT-loop
+Inv-loop s place i₀ low₀ i low = least low (entriesLow (entriesFrom s i)) ≡ entriesLow (entriesFrom s i₀)
+
+abbrev μ-loop : tie.MeasureT-loop
+μ-loop s place i₀ low₀ i low = length s - i
+
+returns : tie.Need-returns Inv-loop μ-loop
+returns c = entries-absent (c .before .before .args .s .now) (c .before .before .args .place) (c .if1 .taken)
+
+returns-2 : tie.Need-returns-2 Inv-loop μ-loop
+returns-2 c = entries-past (c .before .before .before .args .s .now) (c .before .before .before .args .place) (c .before .if1 .left) (c .if2 .taken)
+
+add-t13 : tie.Need-add-t13 Inv-loop μ-loop
+add-t13 c = search needs
+
+skip-blanks-requires : tie.Need-skip-blanks-requires Inv-loop μ-loop
+skip-blanks-requires c κs = search needs
+
+loop-holds : tie.Need-loop-holds Inv-loop μ-loop
+loop-holds c = entries-begin (c .before .before .before .before .args .s .now) _
+
+next-element-requires : tie.Need-next-element-requires Inv-loop μ-loop
+next-element-requires c κs = search needs
+
+enum-known-g : tie.Need-enum-known-g Inv-loop μ-loop
+enum-known-g c = search needs
+
+enum-told : tie.Need-enum-told Inv-loop μ-loop
+enum-told c = search needs
+
+returns-3 : tie.Need-returns-3 Inv-loop μ-loop
+returns-3 c = entries-are (c .before .before .before .before .before .before .before .before .args .s .now) (c .before .before .before .before .before .before .before .before .args .place) (c .before .before .before .before .before .before .if1 .left) _ _ (c .before .before .before .before .skip-blanks .ensures) (entries-over (c .before .before .before .before .before .before .before .before .args .s .now) (c .before .before .before .loop .i) (c .before .before .before .loop .low) (sym (c .before .before .next-element .ensures) ∙ (c .enum-told .given .1)) ∙ (c .before .before .before .loop .inv))
+
+part-of-requires : tie.Need-part-of-requires Inv-loop μ-loop
+part-of-requires c κs = search needs
+
+extension-requires : tie.Need-extension-requires Inv-loop μ-loop
+extension-requires c κs = search needs
+
+entry-low-requires : tie.Need-entry-low-requires Inv-loop μ-loop
+entry-low-requires c κs = search needs
+
+least-requires : tie.Need-least-requires Inv-loop μ-loop
+least-requires c κs = search needs
+
+loop-less : tie.Need-loop-less Inv-loop μ-loop
+loop-less c = let o = entry-past (c .before .before .before .before .before .before .before .before .before .before .before .before .before .args .s .now) (c .before .before .before .before .before .before .before .before .loop .i) (c .before .before .before .before .before .before .before .before .loop .low) _ _ (sym (c .before .before .before .before .before .before .before .next-element .ensures) ∙ (c .before .before .before .before .before .g .given .1)) in omega arith
+
+loop-again : tie.Need-loop-again Inv-loop μ-loop
+loop-again c = entries-on (c .before .before .before .before .before .before .before .before .before .before .before .before .before .args .s .now) (c .before .before .before .before .before .before .before .before .loop .i) (c .before .before .before .before .before .before .before .before .loop .low) _ _ (sym (c .before .before .before .before .before .before .before .next-element .ensures) ∙ (c .before .before .before .before .before .g .given .1)) _ _ _ _ (c .before .before .before .part-of .ensures) (c .before .before .extension .ensures) (c .before .entry-low .ensures) (c .least .ensures) ∙ (c .before .before .before .before .before .before .before .before .loop .inv)
+
+pub entries-low-spec : {M : Type 1} → statement M
+entries-low-spec =
+    tie.close
+    (tie.spec
+    Inv-loop
+    μ-loop
+    returns
+    returns-2
+    add-t13
+    skip-blanks-requires
+    loop-holds
+    next-element-requires
+    enum-known-g
+    enum-told
+    returns-3
+    part-of-requires
+    extension-requires
+    entry-low-requires
+    least-requires
+    loop-less
+    loop-again)

@@ -1,0 +1,4 @@
+pub mod StageLaws
+pub mod TopLaws
+pub mod ArrayLaws
+pub mod PartLaws

@@ -1,0 +1,108 @@
+-- Steps of the definitions of specs/Form.antt, on plain variables.
+use mathlib.Core.Path.{_≡_, refl, sym, ap, _∙_}
+use mathlib.Core.Bool.{Bool, true, false, cond, not, _&&_}
+use mathlib.Core.List.{List, [], _∷_}
+use mathlib.Core.Option.{Option, none, some}
+use Prim.Native.Nat.{ℕ}
+use lib.Dec.{eqb}
+use borrow.Author.Tests.{eq-eqb, ne-eqb}
+use Rattle.tokens.specs.Number.{digit}
+use Rattle.decode.specs.Decode.{stream}
+use Rattle.texts.specs.declared.NameForm.{NameForm}
+use Rattle.texts.specs.declared.NameForm.the-variants as F
+use Rattle.texts.specs.Texts.{all}
+use Rattle.texts.specs.Form.{nameByte, spaceByte, begun, space, rest, formOk, formOf, partAfter, pastSpace}
+
+-- ---- a text x, at its end or from its next byte on
+module _ (x : List ℕ) where
+  pub begun-end : x ≡ [] → false ≡ begun x
+  begun-end e = rw e
+
+  pub space-end : x ≡ [] → false ≡ begun (space x)
+  unfolding space
+  space-end e = rw e
+
+  pub past-end : x ≡ [] → none ≡ pastSpace x
+  unfolding pastSpace
+  past-end e = rw e
+
+  pub all-end : (good : ℕ → Bool) → x ≡ [] → true ≡ all good x
+  unfolding all
+  all-end good e = rw e
+
+  module _ (b : ℕ) (y : List ℕ) (e : x ≡ b ∷ y) where
+    pub begun-is : (t : Bool) → digit b ≡ t → not t ≡ begun x
+    begun-is t d = rw (e, d)
+
+    pub space-colon : b ≡ 0x3A → false ≡ begun (space x)
+    unfolding space
+    space-colon h = rw (e, eq-eqb _ _ h)
+
+    pub space-is : (t : Bool) → (b ≡ 0x3A → ⊥) → digit b ≡ t → not t ≡ begun (space x)
+    unfolding space
+    space-is t h d = rw (e, ne-eqb _ _ h, d)
+
+    pub past-colon : b ≡ 0x3A → some y ≡ pastSpace x
+    unfolding pastSpace
+    past-colon h = rw (e, eq-eqb _ _ h)
+
+    pub past-on : (b ≡ 0x3A → ⊥) → spaceByte b ≡ true → pastSpace y ≡ pastSpace x
+    unfolding pastSpace
+    past-on h t = rw (e, ne-eqb _ _ h, t)
+
+    pub past-not : (b ≡ 0x3A → ⊥) → spaceByte b ≡ false → none ≡ pastSpace x
+    unfolding pastSpace
+    past-not h t = rw (e, ne-eqb _ _ h, t)
+
+    module _ (good : ℕ → Bool) where
+      pub all-on : good b ≡ true → all good y ≡ all good x
+      unfolding all
+      all-on t = rw (e, t)
+
+      pub all-not : good b ≡ false → false ≡ all good x
+      unfolding all
+      all-not t = rw (e, t)
+
+-- ---- the namespace and then the part
+abbrev thenPart : Option (List ℕ) → Option (List ℕ)
+thenPart none = none
+thenPart (some l) = cond (begun l && all nameByte l) (some l) none
+
+past-is : (d : List ℕ) → cond (all spaceByte (space d) && begun (rest d) && all nameByte (rest d)) (some (rest d)) none ≡ thenPart (pastSpace d)
+unfolding space rest pastSpace all
+past-is [] = refl
+past-is (b ∷ l) = go (eqb b 0x3A) (spaceByte b) refl (past-is l) where
+  go : (t u : Bool) → spaceByte b ≡ u
+      → cond (all spaceByte (space l) && begun (rest l) && all nameByte (rest l)) (some (rest l)) none ≡ thenPart (pastSpace l)
+      → cond (all spaceByte (cond t [] (b ∷ space l)) && begun (cond t l (rest l)) && all nameByte (cond t l (rest l))) (some (cond t l (rest l))) none
+      ≡ thenPart (cond t (some l) (cond u (pastSpace l) none))
+  go true u q h = refl
+  go false true q h = rw q h
+  go false false q h = rw q
+
+module _ (d : List ℕ) where
+  pub form-1 : begun (space d) ≡ false → none ≡ formOf d
+  unfolding formOf formOk
+  form-1 h = rw h
+
+  module _ (h : begun (space d) ≡ true) (raw : List ℕ) (f : NameForm) (ef : partAfter raw f ≡ pastSpace d) where
+    split : thenPart (partAfter raw f) ≡ formOf d
+    unfolding formOf formOk
+    split = ap thenPart ef ∙ sym (rw h (past-is d))
+
+    pub form-2 : f ≡ F.Bad → none ≡ formOf d
+    form-2 e = sym (ap (λ (g : NameForm). thenPart (partAfter raw g)) e) ∙ split
+
+    module _ (at k : ℕ) (e : f ≡ F.After at k) where
+      part : thenPart (some (stream raw at k)) ≡ formOf d
+      part = sym (ap (λ (g : NameForm). thenPart (partAfter raw g)) e) ∙ split
+
+      pub form-3 : begun (stream raw at k) ≡ false → none ≡ formOf d
+      form-3 b = sym (rw b) ∙ part
+
+      module _ (b : begun (stream raw at k) ≡ true) where
+        pub form-4 : all nameByte (stream raw at k) ≡ false → none ≡ formOf d
+        form-4 n = sym (rw (b, n)) ∙ part
+
+        pub form-5 : all nameByte (stream raw at k) ≡ true → some (stream raw at k) ≡ formOf d
+        form-5 n = sym (rw (b, n)) ∙ part

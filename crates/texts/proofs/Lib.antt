@@ -1,0 +1,5 @@
+pub mod LookupLaws
+pub mod DatatypeLaws
+pub mod FormLaws
+pub mod DatetimeLaws
+pub mod Edges

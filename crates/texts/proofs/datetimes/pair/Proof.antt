@@ -1,0 +1,89 @@
+use native.Mathlib.Omega.{arith}
+use mathlib.Core.Path.{sym, _∙_}
+use Rattle.tokens.proofs.TextLaws.{within-is}
+use Rattle.decode.proofs.DecodeLaws.{streamed-next, streamed-end}
+use Rattle.texts.proofs.DatetimeLaws.{pair-end, pair-first, pair-one, pair-second, pair-both}
+use borrow.Author.Needs.{needs}
+use Rattle.texts.proofs.datetimes.pair.Statement.{statement}
+use Rattle.texts.proofs.datetimes.pair.Tie as tie
+
+next-byte-requires : tie.Need-next-byte-requires
+next-byte-requires c κs = search needs
+
+enum-known-g : tie.Need-enum-known-g
+enum-known-g c = search needs
+
+enum-told : tie.Need-enum-told
+enum-told c = search needs
+
+returns : tie.Need-returns
+returns c = pair-end _ (streamed-end _ _ _ (c .before .before .next-byte .ensures) (c .enum-told .given .1))
+
+is-within-requires : tie.Need-is-within-requires
+is-within-requires c κs = search needs
+
+next-byte-requires-2 : tie.Need-next-byte-requires-2
+next-byte-requires-2 c κs = search needs
+
+enum-known-h : tie.Need-enum-known-h
+enum-known-h c = search needs
+
+enum-told-2 : tie.Need-enum-told-2
+enum-told-2 c = search needs
+
+returns-2 : tie.Need-returns-2
+returns-2 c = pair-one _ _ _ (streamed-next _ _ _ (c .before .before .before .before .before .before .before .before .next-byte .ensures) _ _ _ (c .before .before .before .before .before .before .g .given .1)) (streamed-end _ _ _ (c .before .before .next-byte2 .ensures) (c .enum-told2 .given .1))
+
+is-within-requires-2 : tie.Need-is-within-requires-2
+is-within-requires-2 c κs = search needs
+
+sub-t14 : tie.Need-sub-t14
+sub-t14 c = let h = within-is _ _ _ (sym (c .before .before .before .before .before .before .before .is-within .ensures) ∙ (c .before .before .before .before .before .before .if1 .taken)) in omega arith
+
+cast-t15 : tie.Need-cast-t15
+cast-t15 c = search needs
+
+mul-t16 : tie.Need-mul-t16
+mul-t16 c = search needs
+
+sub-t17 : tie.Need-sub-t17
+sub-t17 c = let h = within-is _ _ _ (sym (c .before .is-within2 .ensures) ∙ (c .if2 .taken)) in omega arith
+
+cast-t18 : tie.Need-cast-t18
+cast-t18 c = search needs
+
+add-t19 : tie.Need-add-t19
+add-t19 c = search needs
+
+returns-3 : tie.Need-returns-3
+returns-3 c = pair-both _ _ _ (streamed-next _ _ _ (c .before .before .before .before .before .before .before .before .before .before .before .next-byte .ensures) _ _ _ (c .before .before .before .before .before .before .before .before .before .g .given .1)) _ _ (streamed-next _ _ _ (c .before .before .before .before .before .next-byte2 .ensures) _ _ _ (c .before .before .before .h .given .1)) (sym (c .before .before .before .before .before .before .before .is-within .ensures) ∙ (c .before .before .before .before .before .before .if1 .taken)) (sym (c .before .is-within2 .ensures) ∙ (c .if2 .taken))
+
+returns-4 : tie.Need-returns-4
+returns-4 c = pair-second _ _ _ (streamed-next _ _ _ (c .before .before .before .before .before .before .before .before .before .before .before .next-byte .ensures) _ _ _ (c .before .before .before .before .before .before .before .before .before .g .given .1)) _ _ (streamed-next _ _ _ (c .before .before .before .before .before .next-byte2 .ensures) _ _ _ (c .before .before .before .h .given .1)) (sym (c .before .before .before .before .before .before .before .is-within .ensures) ∙ (c .before .before .before .before .before .before .if1 .taken)) (sym (c .before .is-within2 .ensures) ∙ (c .if2 .left))
+
+returns-5 : tie.Need-returns-5
+returns-5 c = pair-first _ _ _ (streamed-next _ _ _ (c .before .before .before .before .before .next-byte .ensures) _ _ _ (c .before .before .before .g .given .1)) (sym (c .before .is-within .ensures) ∙ (c .if1 .left))
+
+pub pair-spec : {M : Type 1} → statement M
+pair-spec =
+    tie.close
+    (tie.spec
+    next-byte-requires
+    enum-known-g
+    enum-told
+    returns
+    is-within-requires
+    next-byte-requires-2
+    enum-known-h
+    enum-told-2
+    returns-2
+    is-within-requires-2
+    sub-t14
+    cast-t15
+    mul-t16
+    sub-t17
+    cast-t18
+    add-t19
+    returns-3
+    returns-4
+    returns-5)

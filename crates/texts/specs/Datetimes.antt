@@ -1,0 +1,147 @@
+-- Datetimes (document 01, "Fields", after source document 001). t is the decoded text.
+use mathlib.Core.Bool.{Bool, true, false, cond, not, _&&_, _||_}
+use mathlib.Core.List.{List, [], _∷_}
+use mathlib.Core.Option.{Option, none, some}
+use Prim.Native.Nat.{ℕ, _+_, _*_, _-_, _%_}
+use lib.ListN.{getD}
+use lib.Dec.{eqb, leb}
+use Rattle.tokens.specs.Number.{digit}
+use Rattle.decode.specs.Decode.{stream}
+use Rattle.texts.specs.declared.Date.{Date}
+use Rattle.texts.specs.declared.Clock.{Clock}
+use Rattle.texts.specs.declared.Pair.{Pair}
+use Rattle.texts.specs.declared.Pair.the-variants as P
+use Rattle.texts.specs.declared.DateRead.{DateRead}
+use Rattle.texts.specs.declared.DateRead.the-variants as D
+use Rattle.texts.specs.declared.ClockRead.{ClockRead}
+use Rattle.texts.specs.declared.ClockRead.the-variants as C
+use Rattle.texts.specs.declared.Fraction.{Fraction}
+use Rattle.texts.specs.declared.Fraction.the-variants as F
+use Rattle.texts.specs.declared.Datetime.{Datetime}
+use Rattle.texts.specs.declared.Datetime.the-variants as T
+
+-- what was read off the front of a text, and the rest of it; or that it is not there
+pub data Got (A : Type 0) : Type 0 where
+  got : A → List ℕ → Got A
+  bad : Got A
+
+abbrev pub thenGot : {A B : Type 0} → Got A → (A → List ℕ → Got B) → Got B
+thenGot (got a l) f = f a l
+thenGot bad f = bad
+
+-- two digits
+unfoldable pub pairOf : List ℕ → Got ℕ
+pairOf [] = bad
+pairOf (a ∷ []) = bad
+pairOf (a ∷ (b ∷ l)) = cond (digit a && digit b) (got ((a - 0x30) * 10 + (b - 0x30)) l) bad
+
+-- n, with a mark after it
+unfoldable pub markAfter : ℕ → ℕ → List ℕ → Got ℕ
+markAfter mark n [] = bad
+markAfter mark n (b ∷ l) = cond (eqb b mark) (got n l) bad
+
+unfoldable pub pairThen : ℕ → List ℕ → Got ℕ
+pairThen mark t = thenGot (pairOf t) (markAfter mark)
+
+-- `YYYY-MM-DDT`
+unfoldable pub dateOf : List ℕ → Got Date
+dateOf t =
+    thenGot (pairOf t) (λ c t. thenGot (pairThen 0x2D t) (λ y t.
+    thenGot (pairThen 0x2D t) (λ m t. thenGot (pairThen 0x54 t) (λ d t.
+    got (record { year = c * 100 + y; month = m; day = d }) t))))
+
+-- `HH:MM:SS`
+unfoldable pub clockOf : List ℕ → Got Clock
+clockOf t =
+    thenGot (pairThen 0x3A t) (λ h t. thenGot (pairThen 0x3A t) (λ m t. thenGot (pairOf t) (λ s t.
+    got (record { hour = h; minute = m; second = s }) t)))
+
+abbrev pub isEmpty : List ℕ → Bool
+isEmpty [] = true
+isEmpty (b ∷ l) = false
+
+abbrev pub startsDigit : List ℕ → Bool
+startsDigit [] = false
+startsDigit (b ∷ l) = digit b
+
+-- digits, `Z` and no more
+unfoldable pub zoned : List ℕ → Bool
+zoned [] = false
+zoned (b ∷ l) = cond (eqb b 0x5A) (isEmpty l) (digit b && zoned l)
+
+unfoldable pub leadingDigits : List ℕ → List ℕ
+leadingDigits [] = []
+leadingDigits (b ∷ l) = cond (digit b) (b ∷ leadingDigits l) []
+
+-- "optionally `.` and one or more digits, then `Z`": the fraction's digits
+unfoldable pub fractionOf : List ℕ → Option (List ℕ)
+fractionOf [] = none
+fractionOf (b ∷ l) =
+    cond (eqb b 0x2E) (cond (startsDigit l && zoned l) (some (leadingDigits l)) none)
+    (cond (eqb b 0x5A && isEmpty l) (some []) none)
+
+-- "Gregorian month lengths"; "year 0000 is allowed and a leap year"
+unfoldable pub leap : ℕ → Bool
+leap y = eqb (y % 4) 0 && (not (eqb (y % 100) 0) || eqb (y % 400) 0)
+
+unfoldable pub monthDays : List ℕ
+monthDays = 0 ∷ 31 ∷ 28 ∷ 31 ∷ 30 ∷ 31 ∷ 30 ∷ 31 ∷ 31 ∷ 30 ∷ 31 ∷ 30 ∷ 31 ∷ []
+
+-- the last day of a month of a year; 0 if there is no such month
+unfoldable pub lastDay : ℕ → ℕ → ℕ
+lastDay y m = cond (eqb m 2 && leap y) 29 (getD monthDays m 0)
+
+unfoldable pub dateOk : Date → Bool
+dateOk d = leb 1 (d .day) && leb (d .day) (lastDay (d .year) (d .month))
+
+-- "hours to 23, minutes to 59; second 60 only at 23:59 on a month's last day"
+unfoldable pub clockOk : Bool → Clock → Bool
+clockOk last c =
+    leb (c .hour) 23 && leb (c .minute) 59
+    && (leb (c .second) 59 || eqb (c .second) 60 && eqb (c .hour) 23 && eqb (c .minute) 59 && last)
+
+abbrev pub momentOk : Date → Clock → Bool
+momentOk d c = dateOk d && clockOk (eqb (d .day) (lastDay (d .year) (d .month))) c
+
+-- a datetime by its parts; the fraction by its digits, none if there is none
+pub record Moment : Type 0 where
+  pub date : Date
+  pub clock : Clock
+  pub fraction : List ℕ
+
+abbrev pub momentOf : Date → Clock → Option (List ℕ) → Option Moment
+momentOf d c (some f) = cond (momentOk d c) (some (record { date = d; clock = c; fraction = f })) none
+momentOf d c none = none
+
+abbrev pub withClock : Date → Got Clock → Option Moment
+withClock d (got c t) = momentOf d c (fractionOf t)
+withClock d bad = none
+
+abbrev pub withDate : Got Date → Option Moment
+withDate (got d t) = withClock d (clockOf t)
+withDate bad = none
+
+unfoldable pub datetimeOf : List ℕ → Option Moment
+datetimeOf t = withDate (dateOf t)
+
+-- ---- what answers say of a text s: a place, with how many bytes of its unit are passed, stands for the decoded rest
+abbrev pub pairSays : List ℕ → Pair → Got ℕ
+pairSays s (P.Value n at k) = got n (stream s at k)
+pairSays s P.Bad = bad
+
+abbrev pub dateSays : List ℕ → DateRead → Got Date
+dateSays s (D.At d at k) = got d (stream s at k)
+dateSays s D.Bad = bad
+
+abbrev pub clockSays : List ℕ → ClockRead → Got Clock
+clockSays s (C.At c at k) = got c (stream s at k)
+clockSays s C.Bad = bad
+
+-- the fraction's digits are those at the place
+abbrev pub fractionSays : List ℕ → Fraction → Option (List ℕ)
+fractionSays s (F.At at k) = some (leadingDigits (stream s at k))
+fractionSays s F.Bad = none
+
+abbrev pub datetimeSays : List ℕ → Datetime → Option Moment
+datetimeSays s (T.At d c at k) = some (record { date = d; clock = c; fraction = leadingDigits (stream s at k) })
+datetimeSays s T.Bad = none
