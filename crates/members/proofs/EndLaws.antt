@@ -106,22 +106,3 @@ member-places s i m j e =
           next = omega arith;
         }
     to R.Bad p h = let z : _≡_ {A = ℕ} 0 1 = cc in absurd (omega arith)
-
--- and so for elements
-pub record ElementPlaces (i : ℕ) (x : Element) (j : ℕ) : Type 0 where
-  pub at : x .at ≡ i
-  pub end : i < x .end
-  pub next : x .end ≤ j
-
-pub element-places : (s : List ℕ) (i : ℕ) (x : Element) (j : ℕ) → elementStep s i ≡ E.Found x j → ElementPlaces i x j
-unfolding elementStep
-element-places s i x j e =
-    cond-elim (λ (y : ElementStep). y ≡ E.Found x j → ElementPlaces i x j) (ltb i (skipValue s i)) _ _
-    (λ q h.
-    let l = ltb-true i (skipValue s i) q in
-    let n = next-onward s (skipValue s i) in
-    let ea : i ≡ x .at = cc in
-    let ee : skipValue s i ≡ x .end = cc in
-    let ej : nextItem s (skipValue s i) ≡ j = cc in
-    record { at = omega arith; end = omega arith; next = omega arith })
-    (λ _ h. let z : _≡_ {A = ℕ} 0 1 = cc in absurd (omega arith)) e

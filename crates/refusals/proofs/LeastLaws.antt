@@ -2,7 +2,7 @@
 use Prim.Native.Nat.{ℕ, zero, suc, _≤_, _<_, min}
 use mathlib.Core.Path.{_≡_, refl, sym, ap, _∙_}
 use mathlib.Core.Bool.{Bool, true, false, cond, _||_}
-use mathlib.Core.List.{List, [], _∷_, _++_}
+use mathlib.Core.List.{List, [], _∷_}
 use native.Mathlib.Omega.{arith}
 use lib.Dec.{eqb, leb}
 use borrow.Author.Tests.{eq-eqb, ne-eqb, eqb-true, eqb-false, le-leb, lt-leb, leb-true, leb-false}
@@ -91,9 +91,3 @@ lowest-either k (n ∷ ns) (false ∷ bs) (true ∷ cs) h =
     under n (lowest (rulesOf ns bs)) (omega (arith, h .0)) (λ f. let i = above n ns bs (h .1) f in omega arith)
     ∙ least-comm n (lowest (rulesOf ns bs))
 lowest-either k (n ∷ ns) (false ∷ bs) (false ∷ cs) h = lowest-either n ns bs cs (h .1)
-
--- a rule whose condition does not hold can be left out
-pub lowest-drop : (n : ℕ) (xs ys : List Rule) → lowest (xs ++ rule n false ∷ ys) ≡ lowest (xs ++ ys)
-unfolding lowest
-lowest-drop n [] ys = refl
-lowest-drop n (x ∷ xs) ys = ap (cond (x .holds) (x .number)) (lowest-drop n xs ys)

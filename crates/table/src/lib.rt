@@ -13,6 +13,7 @@ ghost use Rattle.table.specs.Locate.{isSample, placeIn, locateAnswer};
 use limits::Limits;
 
 // The twelve numbers of a table.
+#[repr(C)]
 pub struct Summary {
     pub refusal: u64,
     pub datatype: u64,

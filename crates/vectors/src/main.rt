@@ -1,5 +1,5 @@
-// Answers cases. Each case on standard input is a line of a letter, a space and the payload's length, and then the payload;
-// its answer is one line. Anything else ends the run with the line `stopped`. Payloads are those of second/README.md.
+// Answers cases. Each case on standard input is a line of a letter, a space and the payload's length, and then the payload,
+// as second/README.md says; its answer is one line. A broken frame or an unknown letter ends the run with the line `stopped`.
 mod body_cases;
 mod field_cases;
 mod frames;
@@ -10,6 +10,7 @@ mod memory;
 mod numbers;
 mod operations;
 mod parts;
+mod reading_cases;
 mod steps_cases;
 mod sum;
 mod table_cases;
@@ -28,10 +29,13 @@ use crate::frames::read_header;
 use crate::line::stop;
 use crate::listing_cases::answer_first_line;
 use crate::parts::front_bytes;
+use crate::reading_cases::run_reading;
+use crate::table_cases::NUMBERS;
 use crate::table_cases::run_table;
+use limits::Limits;
 
 // The bytes of the longest payload: the numbers of a table's case and a metadata text one byte too long.
-const ROOM: usize = 127097;
+const ROOM: usize = 8 * NUMBERS + Limits::METADATA + 1;
 
 fn main() {
     let mut room = [0u8; ROOM];
@@ -82,6 +86,7 @@ fn answer(letter: u8, payload: &[u8]) -> bool {
         b'l' => run_table(letter, payload),
         b'p' => run_table(letter, payload),
         b'q' => answer_first_line(payload).print(),
+        b'r' => run_reading(payload),
         _ => answer_field(letter, payload),
     }
 }

@@ -10,7 +10,7 @@ use crate::steps_cases::run_steps;
 use table::Summary;
 
 // The numbers of the longest case: 13, two counts and two times 4,096.
-const NUMBERS: usize = 8207;
+pub(crate) const NUMBERS: usize = 8207;
 
 pub(crate) fn run_table(letter: u8, payload: &[u8]) -> bool {
     let mut room = [0u64; NUMBERS];
