@@ -1,13 +1,13 @@
 -- An accepted recording is a well-formed table, whose rows are those that its metadata give.
 use Prim.Native.Nat.{ℕ, _+_, _-_, _≤_}
-use mathlib.Core.Path.{_≡_, refl, sym, subst, _∙_}
-use mathlib.Core.Bool.{Bool, true, false, cond, not, _||_, false≢true}
+use mathlib.Core.Path.{_≡_, refl, sym, _∙_}
+use mathlib.Core.Bool.{true, false, not, _||_, false≢true}
 use mathlib.Core.List.{List, [], _∷_, map}
 use mathlib.Core.Option.{Option, none, some}
 use native.Mathlib.Omega.{arith}
 use lib.ListN.{length, drop, length-take, length-drop}
 use lib.Dec.{eqb, ltb}
-use borrow.Author.Tests.{le-leb, eqb-true, ltb-false, not-false}
+use borrow.Author.Tests.{le-leb, ltb-false}
 use Rattle.limits.specs.Limits.{metadata, dataset, channels}
 use Rattle.tokens.specs.Text.{within}
 use Rattle.refusals.specs.Refusals.{lowest}
@@ -25,13 +25,14 @@ use Rattle.layout.specs.Layout.{Contents, unordered, notWhole, outside, tooMany
 use Rattle.layout.specs.Claim.{labelsOk, placesOk, LaidOut}
 use Rattle.layout.proofs.JudgeLaws.{passed}
 use Rattle.layout.proofs.Theorem.{laid-out}
-use Rattle.objects.specs.Fields.{Value, fieldOf, fieldsAt, numberIn, valueFrom, given, misnamed, missing, mistyped}
+use Rattle.objects.specs.Fields.{Value, fieldOf, fieldsAt, valueFrom, given, misnamed, missing, mistyped}
 use Rattle.objects.specs.Global.{any, inGlobal, otherVersion, otherDatatype, badChannels, badExtension, needsExtension, noDataset}
 use Rattle.objects.specs.Capture.{badDatetime}
 use Rattle.objects.specs.Annotation.{inAnnotation, annotationIn, textPlace, textLength}
 use Rattle.recording.specs.File.{named, elementsIn, fileOf, contentsOf}
 use Rattle.recording.specs.Reading.{badLength, notJson, badMembers, misshapen, inFile, rulesOf, contents, readRefusal, readAnswer, capturesRead, annotationsRead}
 use Rattle.claims.proofs.RuleLaws.{or-left, or-right, and-true}
+use Rattle.claims.proofs.ValueLaws.{each-all, values-hold}
 use Rattle.claims.proofs.Demand1.{read-number}
 
 -- ---- text places
@@ -45,25 +46,11 @@ Inside n none = Unit {0}
 Inside n (some v) = (1 ≤ length (v .part)) × (v .at + length (v .part) ≤ n)
 
 -- field i, of a type whose values have a byte
-module _ (s : List ℕ) (cs : List Core) (i : ℕ) (byte : (p : List ℕ) → hasType (typeAt cs i) p ≡ true → 1 ≤ length p) where
-  field-inside : (m : Member) → not (hasType (typeAt cs (numberIn cs (fieldOf s m))) (memberValue s m)) ≡ false → eqb (numberIn cs (fieldOf s m)) i ≡ true
-      → Inside (length s) (some (fieldOf s m .value))
-  field-inside m t e =
-      let h = byte (memberValue s m) (subst (λ (j : ℕ). hasType (typeAt cs j) (memberValue s m) ≡ true) (eqb-true _ _ e) (not-false _ t)) in
-      (h, part-inside s (m .value) (m .end) h)
-
-  values-inside : (z : Option Value) (ms : List Member) → Inside (length s) z → mistyped cs (map (fieldOf s) ms) ≡ false
-      → Inside (length s) (valueFrom cs i z (map (fieldOf s) ms))
-  unfolding mistyped valueFrom
-  values-inside z [] h t = h
-  values-inside z (m ∷ ms) h t = values-inside _ ms (go (eqb (numberIn cs (fieldOf s m)) i) refl) (or-right bad (mistyped cs (map (fieldOf s) ms)) t)
-    where
-      bad : Bool
-      bad = not (hasType (typeAt cs (numberIn cs (fieldOf s m))) (memberValue s m))
-
-      go : (b : Bool) → eqb (numberIn cs (fieldOf s m)) i ≡ b → Inside (length s) (cond b (some (fieldOf s m .value)) z)
-      go true e = field-inside m (or-left bad (mistyped cs (map (fieldOf s) ms)) t) e
-      go false e = h
+values-inside : (s : List ℕ) (cs : List Core) (i : ℕ) → ((p : List ℕ) → hasType (typeAt cs i) p ≡ true → 1 ≤ length p) → (ms : List Member)
+    → mistyped cs (map (fieldOf s) ms) ≡ false → Inside (length s) (valueFrom cs i none (map (fieldOf s) ms))
+values-inside s cs i byte ms t =
+    values-hold s cs i (Inside (length s)) (λ m. Unit {0}) (λ m q e. let h = byte (memberValue s m) e in (h, part-inside s (m .value) (m .end) h)) none ms tt
+    (each-all (λ m. Unit {0}) (λ m. tt) ms) t
 
 double-byte : (p : List ℕ) → hasType (typeAt globals 15) p ≡ true → 1 ≤ length p
 unfolding hasType typeAt coreAt globals within
@@ -90,7 +77,7 @@ module _ (s : List ℕ) (h : length s ≤ metadata) where
   rate-inside : (o : Option Value) → mistyped globals (given [] (λ v. fieldsAt s (v .at)) o) ≡ false
       → Inside (length s) (inGlobal G.SampleRate (given [] (λ v. fieldsAt s (v .at)) o))
   rate-inside none t = unfold valueFrom in tt
-  rate-inside (some v) t = values-inside s globals 15 double-byte none (membersAt s (v .at)) tt t
+  rate-inside (some v) t = values-inside s globals 15 double-byte (membersAt s (v .at)) t
 
   labels-ok : (es : List Element) → any (mistyped annotations) (map (λ e. fieldsAt s (e .at)) es) ≡ false
       → labelsOk (map annotationIn (map (λ e. fieldsAt s (e .at)) es)) ≡ true
@@ -99,7 +86,7 @@ module _ (s : List ℕ) (h : length s ≤ metadata) where
   labels-ok (e ∷ es) t =
       let a = mistyped annotations (fieldsAt s (e .at)) in
       let b = any (mistyped annotations) (map (λ e. fieldsAt s (e .at)) es) in
-      and-true _ _ (label-ok (length s) h (inAnnotation A.Label (fieldsAt s (e .at))) (values-inside s annotations 3 text-byte none (membersAt s (e .at)) tt (or-left a b t)))
+      and-true _ _ (label-ok (length s) h (inAnnotation A.Label (fieldsAt s (e .at))) (values-inside s annotations 3 text-byte (membersAt s (e .at)) (or-left a b t)))
       (labels-ok es (or-right a b t))
 
   -- "text places end within 61,440"
@@ -108,9 +95,11 @@ module _ (s : List ℕ) (h : length s ≤ metadata) where
   places-ok g a = and-true _ _ (rate-ok (length s) h (inGlobal G.SampleRate _) (rate-inside (named "global" s) g)) (labels-ok (elementsIn s (named "annotations" s)) a)
 
 -- ---- what acceptance tells
-record Passed (s : List ℕ) (d : ℕ) (caps notes : List ℕ) : Type 0 where
+pub record Passed (s : List ℕ) (d : ℕ) (caps notes : List ℕ) : Type 0 where
   long : badLength s d ≡ false
-  types : inFile (mistyped globals) (mistyped captures) (mistyped annotations) (fileOf s) ≡ false
+  pub json : notJson s ≡ false
+  pub shape : misshapen s ≡ false
+  pub types : inFile (mistyped globals) (mistyped captures) (mistyped annotations) (fileOf s) ≡ false
   datatype : otherDatatype (fileOf s .global) ≡ false
   few : badChannels (fileOf s .global) ≡ false
   order : unordered (contents s) ≡ false
@@ -119,7 +108,7 @@ record Passed (s : List ℕ) (d : ℕ) (caps notes : List ℕ) : Type 0 where
   room : tooMany (contents s) caps notes ≡ false
 
 module _ (s : List ℕ) (d : ℕ) (caps notes : List ℕ) where
-  passes : readRefusal s d caps notes ≡ 0 → Passed s d caps notes
+  pub passes : readRefusal s d caps notes ≡ 0 → Passed s d caps notes
   unfolding readRefusal rulesOf
   passes e =
       let r1 = passed 1 (badLength s d) _ refl e in
@@ -140,7 +129,7 @@ module _ (s : List ℕ) (d : ℕ) (caps notes : List ℕ) where
       let r16 = passed 16 (notWhole (contents s) d) _ refl (r15 .1) in
       let r17 = passed 17 (outside (contents s) d) _ refl (r16 .1) in
       let r20 = passed 20 (tooMany (contents s) caps notes) _ refl (r17 .1) in
-      record { long = r1 .0; types = r7 .0; datatype = r9 .0; few = r10 .0; order = r15 .0; whole = r16 .0; inner = r17 .0; room = r20 .0 }
+      record { long = r1 .0; json = r2 .0; shape = r4 .0; types = r7 .0; datatype = r9 .0; few = r10 .0; order = r15 .0; whole = r16 .0; inner = r17 .0; room = r20 .0 }
 
 layout-zero : (k : Contents) (d : ℕ) (caps notes : List ℕ) → ltb dataset d ≡ false → not (listed (k .globals .datatype)) ≡ false
     → not (within 1 channels (k .globals .channels)) ≡ false → unordered k ≡ false → notWhole k d ≡ false → outside k d ≡ false → tooMany k caps notes ≡ false
