@@ -156,8 +156,11 @@ fn put(text: &mut Vec<u8>, bytes: &[u8], rng: &mut Rng) {
 /// A field twice in one of the objects, the second with an escape.
 fn repeat_field(p: &mut Recording, rng: &mut Rng) {
     let place = any_place(p, rng);
-    let Some(members) = p.object(place) else {
+    if p.object(place).map_or(true, |members| members.is_empty()) {
         return repeat_inside(p, rng);
+    }
+    let Some(members) = p.object(place) else {
+        return;
     };
     let (name, value) = members[rng.below(members.len())].clone();
     let plain = !name.is_empty() && name.chars().all(|c| c.is_ascii() && c != '\\');
