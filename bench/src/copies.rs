@@ -1,35 +1,19 @@
 // Times the copy of a recording's samples against memcpy of the same runs of bytes.
+use crate::export::{Summary, Table};
+use crate::median;
 use std::hint::black_box;
 use std::time::Instant;
 
-#[repr(C)]
-struct Copied {
-    refusal: u64,
-    count: u64,
+// The table of a recording of complex 16-bit samples, with equal captures that have a header of 16 bytes each.
+pub struct Equal {
+    summary: Summary,
+    captures: Vec<u64>,
 }
 
-extern "C" {
-    fn table_copy(
-        t: *const u64,
-        t_len: usize,
-        caps: *const u64,
-        caps_len: usize,
-        notes: *const u64,
-        notes_len: usize,
-        bytes: *const u8,
-        bytes_len: usize,
-        a: u64,
-        b: u64,
-        out: *mut u8,
-        out_len: usize,
-    ) -> Copied;
-}
-
-// A recording of complex 16-bit samples, with equal captures that have a header of 16 bytes each.
+// Such a recording with its dataset.
 struct Recording {
     name: &'static str,
-    summary: [u64; 12],
-    captures: Vec<u64>,
+    equal: Equal,
     dataset: Vec<u8>,
     // First byte and length of each piece.
     pieces: Vec<(usize, usize)>,
@@ -38,50 +22,48 @@ struct Recording {
 const WIDTH: u64 = 4;
 const HEADER: u64 = 16;
 // 1 MB of samples.
-const SAMPLES: u64 = 250_000;
+pub const SAMPLES: u64 = 250_000;
 // How long one side runs at a time, in nanoseconds.
 const TURN: f64 = 2e6;
 
+impl Equal {
+    pub fn new(captures: u64) -> Equal {
+        let each = SAMPLES / captures;
+        let row = |k: u64| {
+            // The last capture also has the samples that are left over.
+            let end = if k + 1 == captures { SAMPLES } else { (k + 1) * each };
+            [k * each, end, k * each * WIDTH + (k + 1) * HEADER, HEADER]
+        };
+        let summary = Summary {
+            datatype: 16,
+            channels: 1,
+            width: WIDTH,
+            samples: SAMPLES,
+            size: SAMPLES * WIDTH + captures * HEADER,
+            captures,
+            ..Summary::default()
+        };
+        Equal { summary, captures: (0..captures).flat_map(row).collect() }
+    }
+
+    pub fn table(&self) -> Table<'_> {
+        Table { summary: self.summary, captures: &self.captures, annotations: &[] }
+    }
+}
+
 impl Recording {
     fn new(name: &'static str, captures: u64) -> Recording {
-        let each = SAMPLES / captures;
-        let (mut rows, mut pieces) = (Vec::new(), Vec::new());
-        for k in 0..captures {
-            let (start, first) = (k * each, k * each * WIDTH + (k + 1) * HEADER);
-            rows.extend([start, start + each, first, HEADER]);
-            pieces.push((first as usize, (each * WIDTH) as usize));
-        }
-        let size = SAMPLES * WIDTH + captures * HEADER;
-        Recording {
-            name,
-            summary: [0, 16, 1, WIDTH, 0, 0, SAMPLES, size, captures, 0, 0, 0],
-            captures: rows,
-            dataset: (0..size).map(|k| (k * 7 + 3) as u8).collect(),
-            pieces,
-        }
+        let equal = Equal::new(captures);
+        let piece = |row: &[u64]| (row[2] as usize, ((row[1] - row[0]) * WIDTH) as usize);
+        let pieces = equal.captures.chunks(4).map(piece).collect();
+        let dataset = (0..equal.summary.size).map(|k| (k * 7 + 3) as u8).collect();
+        Recording { name, equal, dataset, pieces }
     }
 
     fn copy(&self, out: &mut [u8]) -> u64 {
-        let none: [u64; 0] = [];
-        // SAFETY: each pointer and length are those of a slice; only `out` is written.
-        let r = unsafe {
-            table_copy(
-                self.summary.as_ptr(),
-                self.summary.len(),
-                self.captures.as_ptr(),
-                self.captures.len(),
-                none.as_ptr(),
-                0,
-                self.dataset.as_ptr(),
-                self.dataset.len(),
-                0,
-                SAMPLES,
-                out.as_mut_ptr(),
-                out.len(),
-            )
-        };
+        let r = self.equal.table().copy(&self.dataset, 0, SAMPLES, out);
         assert_eq!(r.refusal, 0);
-        r.count
+        r.number
     }
 
     // The same bytes, each piece by one memcpy.
@@ -102,11 +84,6 @@ fn run(copy: impl Fn(&mut [u8]) -> u64, out: &mut [u8], repeats: u32) -> f64 {
         black_box(copy(black_box(&mut *out)));
     }
     start.elapsed().as_nanos() as f64 / f64::from(repeats)
-}
-
-fn median(mut v: Vec<f64>) -> f64 {
-    v.sort_by(f64::total_cmp);
-    v[v.len() / 2]
 }
 
 // Prints the copy's speed and its time over memcpy's, the two interleaved.

@@ -1,29 +1,18 @@
-// Times the judge against serde_json on texts of each kind and length, and the copy against memcpy, all interleaved, and
-// prints ratios.
+// Times the judge and the reader against serde_json on texts of each kind and length, the copy against memcpy, and pieces and places
+// by the row, all interleaved, and prints ratios.
 mod copies;
+#[path = "../../crates/export/export.rs"]
+#[allow(dead_code)]
+mod export;
+mod rows;
 mod texts;
 mod typed;
 
+use export::{json_judge, recording_read};
+use std::cell::RefCell;
 use std::hint::black_box;
 use std::time::Instant;
 use texts::{COSTLY, KINDS, ORDINARY};
-
-extern "C" {
-    fn json_judge(text: *const u8, len: usize) -> u32;
-    fn recording_read(
-        text: *const u8,
-        len: usize,
-        size: u64,
-        rows: *mut u64,
-        rows_len: usize,
-        notes: *mut u64,
-        notes_len: usize,
-    ) -> Summary;
-}
-
-// The twelve numbers of a table.
-#[repr(C)]
-struct Summary([u64; 12]);
 
 type Parser = fn(&[u8]) -> bool;
 
@@ -40,13 +29,8 @@ const READER: usize = 4;
 // Long enough for every recording here, and whole samples of four bytes.
 const DATASET: u64 = 1 << 40;
 
-fn answer(text: &[u8]) -> u32 {
-    // SAFETY: the pointer and the length are those of a slice, which the judge only reads.
-    unsafe { json_judge(text.as_ptr(), text.len()) }
-}
-
 fn judge(text: &[u8]) -> bool {
-    answer(text) == 0
+    json_judge(text) == 0
 }
 
 fn value(text: &[u8]) -> bool {
@@ -65,23 +49,15 @@ fn recording(text: &[u8]) -> bool {
         .is_ok()
 }
 
+// The rows that the reader fills, those of captures and those of annotations.
+const ROOM: usize = 4096;
+
+thread_local! {
+    static ROWS: RefCell<[[u64; ROOM]; 2]> = const { RefCell::new([[0; ROOM]; 2]) };
+}
+
 fn read(text: &[u8]) -> bool {
-    let mut rows = [0u64; 4096];
-    let mut notes = [0u64; 4096];
-    // SAFETY: the pointers and the lengths are those of slices, and the reader writes inside the last two only.
-    let t = unsafe {
-        recording_read(
-            text.as_ptr(),
-            text.len(),
-            DATASET,
-            rows.as_mut_ptr(),
-            rows.len(),
-            notes.as_mut_ptr(),
-            notes.len(),
-        )
-    };
-    black_box((&rows, &notes));
-    t.0[0] == 0
+    ROWS.with_borrow_mut(|[rows, notes]| black_box(recording_read(text, DATASET, rows, notes)).refusal == 0)
 }
 
 // A text of a kind and a size, with the times of each parser: for each round, the nanoseconds of one run.
@@ -248,9 +224,9 @@ fn main() {
     // The archive holds the judge that is meant: a good text, no JSON, and a name that stands twice.
     assert_eq!(
         [
-            answer(b"[1]"),
-            answer(b"[1"),
-            answer(br#"{"a":1,"\u0061":2}"#)
+            json_judge(b"[1]"),
+            json_judge(b"[1"),
+            json_judge(br#"{"a":1,"\u0061":2}"#)
         ],
         [0, 2, 3]
     );
@@ -266,4 +242,5 @@ fn main() {
     print_growth(&cases);
     print_worst(&cases);
     copies::print_copies(rounds);
+    rows::print_rows(rounds);
 }

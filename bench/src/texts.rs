@@ -32,12 +32,12 @@ pub const KINDS: [Kind; 11] = [
     Kind {
         name: "strings",
         make: strings,
-        recording: false,
+        recording: true,
     },
     Kind {
         name: "nested",
         make: nested,
-        recording: false,
+        recording: true,
     },
     Kind {
         name: "escaped",
@@ -93,22 +93,28 @@ const GLOBAL: &str = r#"{
     },"#;
 
 fn annotation(i: usize) -> String {
+    commented(i, &format!("seen by the detector at gain {}", i % 40), "")
+}
+
+// An annotation with a comment and more members.
+fn commented(i: usize, comment: &str, more: &str) -> String {
     format!(
         r#"
         {{
             "core:sample_start": {},
             "core:sample_count": {},
             "core:label": "burst {}",
-            "core:comment": "seen by the detector at gain {}",
+            "core:comment": "{}",
             "core:freq_lower_edge": {}.5,
-            "core:freq_upper_edge": {}.25
+            "core:freq_upper_edge": {}.25{}
         }}"#,
         i * 4096,
         1024 + i % 7 * 128,
         i,
-        i % 40,
+        comment,
         433_000_000 + i * 125,
-        433_050_000 + i * 125
+        433_050_000 + i * 125,
+        more
     )
 }
 
@@ -176,16 +182,19 @@ fn compact(size: usize) -> String {
     })
 }
 
+// Annotations with long comments.
 fn strings(size: usize) -> String {
     let words = "the quick brown fox jumps over the lazy dog, and then it rests; ".repeat(4);
-    fill("[", "]", size, |i| format!("\"{i} {words}\""))
+    fill(&annotations_head(), "\n    ]\n}\n", size, |i| commented(i, &words, ""))
 }
 
-// 30 deep: objects in arrays.
+// Annotations with a field of an extension that is nested 28 deep, objects in arrays: 31 in all.
 fn nested(size: usize) -> String {
     let open = "[{\"in\":".repeat(14);
     let close = "}]".repeat(14);
-    fill("[", "]", size, |i| format!("[{open}{i}{close}]"))
+    fill(&annotations_head(), "\n    ]\n}\n", size, |i| {
+        commented(i, "a tree of the extension", &format!(",\n            \"tree:root\": {open}{i}{close}"))
+    })
 }
 
 fn escaped(size: usize) -> String {

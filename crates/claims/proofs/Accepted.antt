@@ -10,6 +10,7 @@ use lib.Dec.{eqb, ltb}
 use borrow.Author.Tests.{le-leb, ltb-false}
 use Rattle.limits.specs.Limits.{metadata, dataset, channels}
 use Rattle.tokens.specs.Text.{within}
+use Rattle.tokens.specs.Lists.{any}
 use Rattle.refusals.specs.Refusals.{lowest}
 use Rattle.members.specs.declared.Member.{Member}
 use Rattle.members.specs.declared.Element.{Element}
@@ -26,7 +27,7 @@ use Rattle.layout.specs.Claim.{labelsOk, placesOk, LaidOut}
 use Rattle.layout.proofs.JudgeLaws.{passed}
 use Rattle.layout.proofs.Theorem.{laid-out}
 use Rattle.objects.specs.Fields.{Value, fieldOf, fieldsAt, valueFrom, given, misnamed, missing, mistyped}
-use Rattle.objects.specs.Global.{any, inGlobal, otherVersion, otherDatatype, badChannels, badExtension, needsExtension, noDataset}
+use Rattle.objects.specs.Global.{inGlobal, otherVersion, otherDatatype, badChannels, badExtension, needsExtension, noDataset}
 use Rattle.objects.specs.Capture.{badDatetime}
 use Rattle.objects.specs.Annotation.{inAnnotation, annotationIn, textPlace, textLength}
 use Rattle.recording.specs.File.{named, elementsIn, fileOf, contentsOf}

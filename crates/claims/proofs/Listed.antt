@@ -10,6 +10,7 @@ use lib.Seq.{take-at}
 use lib.Dec.{eqb}
 use borrow.Author.Tests.{le-leb, eq-eqb, ne-eqb, eqb-true, eqb-false, not-false}
 use Rattle.tokens.specs.Text.{byte, ascii, to, skipBlanks}
+use Rattle.tokens.specs.Lists.{any}
 use Rattle.tokens.specs.declared.Read.{Read}
 use Rattle.grammar.specs.Grammar.{String, string, Value as Derives}
 use Rattle.grammar.specs.Reading.{anyValueAt, valueAt}
@@ -35,7 +36,6 @@ use Rattle.table.specs.Rows.{annotationsOf}
 use Rattle.table.proofs.Bools.{and-left, and-right}
 use Rattle.layout.specs.Layout.{annotationsIn, annotationRow, endIndex}
 use Rattle.objects.specs.Fields.{Value, fieldOf, fieldsAt, valueFrom, mistyped, given}
-use Rattle.objects.specs.Global.{any}
 use Rattle.objects.specs.Annotation.{annotationIn, textPlace, textLength}
 use Rattle.recording.specs.File.{topAt, named, namedFrom, objectsIn, isObject, isListing, allObjects, fileOf, contentsOf}
 use Rattle.recording.specs.Parts.{WasRead}

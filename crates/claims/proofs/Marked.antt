@@ -12,17 +12,17 @@ use Rattle.tokens.specs.Number.{digitsAt, integerAt, fractionAt, exponentAt, sk
 use Rattle.tokens.specs.Run.{runTurns, run}
 use Rattle.tokens.specs.String.{shortEscape, escapeAt, characterAt, stringTurn, stringAt}
 use Rattle.tokens.specs.Text.{within, blank, skipTurn, skipWhile, byteWithin}
+use Rattle.tokens.specs.Lists.{all, any, numberFrom}
 use Rattle.grammar.specs.Reading.{itemTurn, itemsAt, groupAt, memberAt, anyValueAt, valueAt, isJson}
 use Rattle.grammar.specs.Skip.{skipStringTurn, skipString, scalar}
 use Rattle.decode.specs.Decode.{unitAt, utf8, decodedUnits, decodedFrom}
 use Rattle.decode.specs.Same.{same}
 use Rattle.members.specs.Gather.{gatherSteps, gather}
 use Rattle.members.specs.Members.{nextItem}
-use Rattle.json.specs.Names.{has, repeated, badNames, any}
+use Rattle.json.specs.Names.{has, repeated, badNames}
 use Rattle.datatypes.specs.Datatypes.{twelve, datatypes, listed, rowOf, widthOf}
 use Rattle.texts.specs.Form.{nameByte, spaceByte, space, rest, formOk, formOf, pastSpace}
 use Rattle.texts.specs.Lookup.{place}
-use Rattle.texts.specs.Texts.{all, numberFrom}
 use Rattle.fields.specs.Names.{globals, captures, annotations, coreAt, typeAt}
 use Rattle.fields.specs.Values.{digitsFrom, uintOf, hasType}
 use Rattle.refusals.specs.Refusals.{Rule, rule, lowest}
@@ -38,7 +38,7 @@ use Rattle.layout.proofs.JudgeLaws.{numbered, lowest-then}
 use Rattle.layout.specs.declared.Count.the-variants as C
 use Rattle.objects.specs.Fields.{missing, valueFrom, misnamed, missingFrom, mistyped}
 use Rattle.objects.specs.Capture.{badDatetime}
-use Rattle.objects.specs.Global.{otherVersion, otherDatatype, badChannels, any as anyObjects, badExtension, needsExtension, noDataset}
+use Rattle.objects.specs.Global.{otherVersion, otherDatatype, badChannels, badExtension, needsExtension, noDataset}
 use Rattle.recording.specs.File.{File, topAt, namedFrom, allObjects, fileOf, contentsOf}
 use Rattle.recording.specs.Reading.{notJson, badMembers, inFile, contents, badLength, misshapen, rulesOf, readRefusal, readAnswer, capturesRead, annotationsRead}
 use Rattle.claims.specs.Marked.{metadataWith, capturesLent, annotationsLent, answer, captureRows as rowsOfCaptures, annotationRows, gives, pieces, marked, allHold}
@@ -56,7 +56,7 @@ early s bad shape f =
     ∷ rule 8 (otherVersion (f .global))
     ∷ rule 9 (otherDatatype (f .global))
     ∷ rule 10 (badChannels (f .global))
-    ∷ rule 11 (anyObjects badDatetime (f .captures))
+    ∷ rule 11 (any badDatetime (f .captures))
     ∷ rule 12 (badExtension s (f .global))
     ∷ rule 13 (needsExtension s (f .global))
     ∷ rule 14 (noDataset (f .global))
@@ -117,7 +117,7 @@ recording n label = record {
 }
 
 texts : Says (metadataWith "2") (recording 2 219) × Says (metadataWith "21") (recording 21 220) × Says (metadataWith "22") (recording 22 220)
-unfolding metadataWith strictly openSteps valueEnd nextMember nextElement membersOf elementsOf badBy misshapenBy fileBy afterItem colonAt nameAt digitsAt integerAt fractionAt exponentAt skipMinus numberAt runTurns run shortEscape escapeAt characterAt stringTurn stringAt within blank skipTurn skipWhile byteWithin itemTurn itemsAt groupAt memberAt anyValueAt valueAt isJson skipStringTurn skipString scalar unitAt utf8 decodedUnits decodedFrom same gatherSteps gather nextItem has repeated badNames any twelve datatypes listed nameByte spaceByte space rest formOk formOf pastSpace place all numberFrom globals captures annotations coreAt typeAt digitsFrom uintOf hasType lowest badDatetime valueFrom misnamed missingFrom mistyped otherVersion otherDatatype badChannels anyObjects badExtension needsExtension noDataset namedFrom allObjects contentsOf
+unfolding metadataWith strictly openSteps valueEnd nextMember nextElement membersOf elementsOf badBy misshapenBy fileBy afterItem colonAt nameAt digitsAt integerAt fractionAt exponentAt skipMinus numberAt runTurns run shortEscape escapeAt characterAt stringTurn stringAt within blank skipTurn skipWhile byteWithin itemTurn itemsAt groupAt memberAt anyValueAt valueAt isJson skipStringTurn skipString scalar unitAt utf8 decodedUnits decodedFrom same gatherSteps gather nextItem has repeated badNames any twelve datatypes listed nameByte spaceByte space rest formOk formOf pastSpace place all numberFrom globals captures annotations coreAt typeAt digitsFrom uintOf hasType lowest badDatetime valueFrom misnamed missingFrom mistyped otherVersion otherDatatype badChannels badExtension needsExtension noDataset namedFrom allObjects contentsOf
 texts = (record { long = refl; good = refl; said = refl }, record { long = refl; good = refl; said = refl }, record { long = refl; good = refl; said = refl })
 
 -- n samples and d bytes

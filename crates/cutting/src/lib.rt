@@ -17,6 +17,7 @@ use table::Summary;
 use table::no_table;
 
 // How many pieces or bytes were written, or why none.
+#[repr(C)]
 pub struct Wrote {
     pub refusal: u64,
     pub count: u64,

@@ -1,14 +1,14 @@
 -- Laws of the table of datatypes, each a test computed over its rows.
-use Prim.Native.Nat.{ℕ, zero, suc, _+_, _*_, _≤_, _<_, _^_, min}
+use Prim.Native.Nat.{ℕ, zero, suc, _*_, _≤_, _<_, _^_}
 use mathlib.Core.Path.{_≡_, refl, sym, ap, _∙_}
 use mathlib.Core.Bool.{Bool, true, false, _&&_, cond, false≢true}
-use mathlib.Core.List.{List, [], _∷_, _++_}
+use mathlib.Core.List.{List, [], _∷_}
 use native.Mathlib.Omega.{arith}
 use native.Mathlib.Nat.{mul-le-mul, mul-pos}
 use native.Mathlib.Decide.{decLe}
 use mir.Syntax.{w64}
 use mir.Val.{Fits}
-use lib.ListN.{length, getD, take, length-take, List·getD-eq-default, List·getD-append}
+use lib.ListN.{length, getD, List·getD-eq-default, List·getD-append}
 use lib.Dec.{leb, ltb}
 use borrow.Author.Tests.{le-ltb, lt-ltb, le-leb, lt-leb, leb-true, ltb-true}
 use Rattle.limits.specs.Limits.{channels}
@@ -93,10 +93,19 @@ width-fits u n h k =
     omega (arith, mul-le-mul b k)
 
 -- ---- the code's table
-pub getD-same : {A : Type 0} (xs : List A) (k : ℕ) (y z : A) → k < length xs → getD xs k y ≡ getD xs k z
-getD-same [] k y z h = absurd (omega arith)
-getD-same (x ∷ t) zero y z h = refl
-getD-same (x ∷ t) (suc k) y z h = getD-same t k y z (omega arith)
+
+-- k is none of 0 .. n - 1, as a match says it at its last arm
+unfoldable pub Apart : ℕ → ℕ → Type 0
+Apart k zero = Unit {0}
+Apart k (suc n) = Apart k n × (k ≡ n → ⊥)
+
+pub apart-over : (k n : ℕ) → Apart k n → n ≤ k
+unfolding Apart
+apart-over k zero h = omega arith
+apart-over k (suc n) h =
+    let l = apart-over k n (h .0) in
+    let f = h .1 in
+    omega arith
 
 -- names fit the entries
 pub name-most : (c : ℕ) → length (nameOf c) ≤ 8

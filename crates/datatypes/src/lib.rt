@@ -16,167 +16,161 @@ struct Entry {
 
 const COUNT: usize = 24;
 
-// By code.
-const TABLE: [Entry; COUNT] = [
-    Entry {
-        name: *b"rf32_le\0",
-        chars: 7,
-        bytes: 4,
-        complex: false,
-    },
-    Entry {
-        name: *b"rf32_be\0",
-        chars: 7,
-        bytes: 4,
-        complex: false,
-    },
-    Entry {
-        name: *b"ri32_le\0",
-        chars: 7,
-        bytes: 4,
-        complex: false,
-    },
-    Entry {
-        name: *b"ri32_be\0",
-        chars: 7,
-        bytes: 4,
-        complex: false,
-    },
-    Entry {
-        name: *b"ri16_le\0",
-        chars: 7,
-        bytes: 2,
-        complex: false,
-    },
-    Entry {
-        name: *b"ri16_be\0",
-        chars: 7,
-        bytes: 2,
-        complex: false,
-    },
-    Entry {
-        name: *b"ru32_le\0",
-        chars: 7,
-        bytes: 4,
-        complex: false,
-    },
-    Entry {
-        name: *b"ru32_be\0",
-        chars: 7,
-        bytes: 4,
-        complex: false,
-    },
-    Entry {
-        name: *b"ru16_le\0",
-        chars: 7,
-        bytes: 2,
-        complex: false,
-    },
-    Entry {
-        name: *b"ru16_be\0",
-        chars: 7,
-        bytes: 2,
-        complex: false,
-    },
-    Entry {
-        name: *b"ri8\0\0\0\0\0",
-        chars: 3,
-        bytes: 1,
-        complex: false,
-    },
-    Entry {
-        name: *b"ru8\0\0\0\0\0",
-        chars: 3,
-        bytes: 1,
-        complex: false,
-    },
-    Entry {
-        name: *b"cf32_le\0",
-        chars: 7,
-        bytes: 4,
-        complex: true,
-    },
-    Entry {
-        name: *b"cf32_be\0",
-        chars: 7,
-        bytes: 4,
-        complex: true,
-    },
-    Entry {
-        name: *b"ci32_le\0",
-        chars: 7,
-        bytes: 4,
-        complex: true,
-    },
-    Entry {
-        name: *b"ci32_be\0",
-        chars: 7,
-        bytes: 4,
-        complex: true,
-    },
-    Entry {
-        name: *b"ci16_le\0",
-        chars: 7,
-        bytes: 2,
-        complex: true,
-    },
-    Entry {
-        name: *b"ci16_be\0",
-        chars: 7,
-        bytes: 2,
-        complex: true,
-    },
-    Entry {
-        name: *b"cu32_le\0",
-        chars: 7,
-        bytes: 4,
-        complex: true,
-    },
-    Entry {
-        name: *b"cu32_be\0",
-        chars: 7,
-        bytes: 4,
-        complex: true,
-    },
-    Entry {
-        name: *b"cu16_le\0",
-        chars: 7,
-        bytes: 2,
-        complex: true,
-    },
-    Entry {
-        name: *b"cu16_be\0",
-        chars: 7,
-        bytes: 2,
-        complex: true,
-    },
-    Entry {
-        name: *b"ci8\0\0\0\0\0",
-        chars: 3,
-        bytes: 1,
-        complex: true,
-    },
-    Entry {
-        name: *b"cu8\0\0\0\0\0",
-        chars: 3,
-        bytes: 1,
-        complex: true,
-    },
-];
-
-// The row of a code; an empty one for an unlisted code.
+// The row of a code; an empty one for an unlisted code. A constant that is an array is built anew wherever it is used, a match is not.
 fn entry_of(code: u64) -> Entry
     ensures { λ r. ⌜ r ≡ entry (rowOf code) ⌝ }
 {
-    if code < COUNT as u64 {
-        let i = code as usize;
-        return TABLE[i];
-    }
-    Entry {
-        name: [0u8; 8],
-        chars: 0,
-        bytes: 0,
-        complex: false,
+    match code {
+        0 => Entry {
+            name: *b"rf32_le\0",
+            chars: 7,
+            bytes: 4,
+            complex: false,
+        },
+        1 => Entry {
+            name: *b"rf32_be\0",
+            chars: 7,
+            bytes: 4,
+            complex: false,
+        },
+        2 => Entry {
+            name: *b"ri32_le\0",
+            chars: 7,
+            bytes: 4,
+            complex: false,
+        },
+        3 => Entry {
+            name: *b"ri32_be\0",
+            chars: 7,
+            bytes: 4,
+            complex: false,
+        },
+        4 => Entry {
+            name: *b"ri16_le\0",
+            chars: 7,
+            bytes: 2,
+            complex: false,
+        },
+        5 => Entry {
+            name: *b"ri16_be\0",
+            chars: 7,
+            bytes: 2,
+            complex: false,
+        },
+        6 => Entry {
+            name: *b"ru32_le\0",
+            chars: 7,
+            bytes: 4,
+            complex: false,
+        },
+        7 => Entry {
+            name: *b"ru32_be\0",
+            chars: 7,
+            bytes: 4,
+            complex: false,
+        },
+        8 => Entry {
+            name: *b"ru16_le\0",
+            chars: 7,
+            bytes: 2,
+            complex: false,
+        },
+        9 => Entry {
+            name: *b"ru16_be\0",
+            chars: 7,
+            bytes: 2,
+            complex: false,
+        },
+        10 => Entry {
+            name: *b"ri8\0\0\0\0\0",
+            chars: 3,
+            bytes: 1,
+            complex: false,
+        },
+        11 => Entry {
+            name: *b"ru8\0\0\0\0\0",
+            chars: 3,
+            bytes: 1,
+            complex: false,
+        },
+        12 => Entry {
+            name: *b"cf32_le\0",
+            chars: 7,
+            bytes: 4,
+            complex: true,
+        },
+        13 => Entry {
+            name: *b"cf32_be\0",
+            chars: 7,
+            bytes: 4,
+            complex: true,
+        },
+        14 => Entry {
+            name: *b"ci32_le\0",
+            chars: 7,
+            bytes: 4,
+            complex: true,
+        },
+        15 => Entry {
+            name: *b"ci32_be\0",
+            chars: 7,
+            bytes: 4,
+            complex: true,
+        },
+        16 => Entry {
+            name: *b"ci16_le\0",
+            chars: 7,
+            bytes: 2,
+            complex: true,
+        },
+        17 => Entry {
+            name: *b"ci16_be\0",
+            chars: 7,
+            bytes: 2,
+            complex: true,
+        },
+        18 => Entry {
+            name: *b"cu32_le\0",
+            chars: 7,
+            bytes: 4,
+            complex: true,
+        },
+        19 => Entry {
+            name: *b"cu32_be\0",
+            chars: 7,
+            bytes: 4,
+            complex: true,
+        },
+        20 => Entry {
+            name: *b"cu16_le\0",
+            chars: 7,
+            bytes: 2,
+            complex: true,
+        },
+        21 => Entry {
+            name: *b"cu16_be\0",
+            chars: 7,
+            bytes: 2,
+            complex: true,
+        },
+        22 => Entry {
+            name: *b"ci8\0\0\0\0\0",
+            chars: 3,
+            bytes: 1,
+            complex: true,
+        },
+        23 => Entry {
+            name: *b"cu8\0\0\0\0\0",
+            chars: 3,
+            bytes: 1,
+            complex: true,
+        },
+        _ => Entry {
+            name: [0u8; 8],
+            chars: 0,
+            bytes: 0,
+            complex: false,
+        },
     }
 }
 

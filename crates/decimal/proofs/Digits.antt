@@ -9,8 +9,9 @@ use native.Mathlib.Decide.{decLt}
 use lib.ListN.{length, getD, length-append, List·getD-append}
 use borrow.Author.Tests.{lt-ltb, le-ltb, le-leb}
 use Rattle.tokens.specs.Text.{within}
+use Rattle.tokens.specs.Lists.{all, numberFrom}
 use Rattle.tokens.specs.Number.{digit}
-use Rattle.decimal.specs.Decimal.{digitsBy, digitsOf, numberFrom, numberOf, all}
+use Rattle.decimal.specs.Decimal.{digitsBy, digitsOf, numberOf}
 
 -- ---- one digit more
 by-small : (k n : ℕ) → n < 10 → digitsBy (suc k) n ≡ (0x30 + n) ∷ []

@@ -4,6 +4,7 @@ use mathlib.Core.Bool.{Bool, true, _&&_, cond}
 use mathlib.Core.List.{List, [], _∷_, _++_}
 use lib.ListN.{length, drop}
 use lib.Dec.{leb, ltb}
+use Rattle.tokens.specs.Lists.{numberFrom}
 
 -- the digits of n, which has at most k
 unfoldable pub digitsBy : ℕ → ℕ → List ℕ
@@ -14,18 +15,8 @@ digitsBy (suc k) n = cond (ltb n 10) ((0x30 + n) ∷ []) (digitsBy k (n / 10) ++
 unfoldable pub digitsOf : ℕ → List ℕ
 digitsOf n = digitsBy (suc n) n
 
--- the number that digits write, after those that make n
-unfoldable pub numberFrom : ℕ → List ℕ → ℕ
-numberFrom n [] = n
-numberFrom n (b ∷ l) = numberFrom (n * 10 + (b - 0x30)) l
-
 abbrev pub numberOf : List ℕ → ℕ
 numberOf l = numberFrom 0 l
-
--- every byte is good
-unfoldable pub all : (ℕ → Bool) → List ℕ → Bool
-all good [] = true
-all good (b ∷ l) = good b && all good l
 
 -- ---- bytes put to the front of lent memory, all or none
 abbrev pub fits : List ℕ → List ℕ → Bool

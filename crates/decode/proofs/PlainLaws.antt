@@ -1,79 +1,83 @@
 -- Past plain bytes a string, its decoded text and its key go on.
 use mathlib.Core.Path.{_≡_, refl, sym, ap, _∙_}
-use mathlib.Core.Bool.{Bool, true, false, not, _&&_}
-use mathlib.Core.List.{List, _∷_}
+use mathlib.Core.Bool.{Bool, true, _&&_}
+use mathlib.Core.List.{List, [], _∷_}
 use Prim.Native.Nat.{ℕ, zero, suc, _≤_, _<_, _+_, _-_, _*_, _%_}
 use native.Mathlib.Omega.{arith}
-use lib.ListN.{length}
-use lib.Dec.{eqb, ltb, leb}
-use borrow.Author.Tests.{eq-eqb, le-leb, lt-leb, leb-true, leb-false, ltb-true, eqb-true, eqb-false, not-true}
-use Rattle.tokens.specs.Text.{byte, to}
+use native.Mathlib.Numerals.{add-one}
+use lib.ListN.{length, take, drop}
+use lib.Seq.{drop-cons}
+use lib.Dec.{eqb}
+use borrow.Author.Tests.{eq-eqb, eqb-true}
+use Rattle.tokens.specs.Text.{byte}
 use Rattle.tokens.specs.String.{stringAt}
+use Rattle.tokens.specs.Blocks.{plain, ordinary, allAt}
 use Rattle.tokens.specs.declared.Cursor.{Cursor}
 use Rattle.tokens.specs.declared.Read.{Read}
 use Rattle.tokens.specs.declared.Read.the-variants as R
 use Rattle.tokens.proofs.TextLaws.{inside}
-use Rattle.tokens.proofs.StringLaws.{character-plain, string-close, string-on}
+use Rattle.tokens.proofs.StringLaws.{string-close}
+use Rattle.tokens.proofs.BlockLaws.{and-left, and-right, and-assoc, and-true, all-first, all-later}
+use Rattle.tokens.proofs.BlockLaws.{ordinary-is, plain-is, plain-inside, plain-string}
 use Rattle.decode.specs.declared.Keyed.the-variants as K
 use Rattle.decode.specs.declared.Run.{Run}
 use Rattle.decode.specs.declared.Unit.the-variants.{Byte}
 use Rattle.decode.specs.Decode.{decodedFrom}
-use Rattle.decode.specs.Same.{same, keyOf}
-use Rattle.decode.specs.Plain.{plain, ordinary, alike, keyed, PlainRun}
+use Rattle.decode.specs.Same.{same, keyFrom, keyOf}
+use Rattle.decode.specs.Plain.{alike, keyed, PlainRun}
 use Rattle.decode.proofs.DecodeLaws.{from-end, from-unit, unit-plain, ends-not, ends-quote, key-end, key-on}
 
--- what a plain byte is
-pub record Plain (b : ℕ) : Type 0 where
-  pub low : 0x20 ≤ b
-  pub quote : b ≡ 0x22 → ⊥
-  pub slash : b ≡ 0x5C → ⊥
-  pub high : b < 0x80
-
-and-left : (a b : Bool) → (a && b) ≡ true → a ≡ true
-and-left true b e = refl
-and-left false b e = e
-
-and-right : (a b : Bool) → (a && b) ≡ true → b ≡ true
-and-right true b e = e
-and-right false b e = let z : _≡_ {A = ℕ} 0 1 = cc in absurd (omega arith)
-
-and-assoc : (a b c : Bool) → ((a && b) && c) ≡ (a && (b && c))
-and-assoc true b c = refl
-and-assoc false b c = refl
-
-pub plain-is : (b : ℕ) → plain b ≡ true → Plain b
-unfolding plain
-plain-is b e =
-    let l : (leb 0x20 b && not (eqb b 0x22) && not (eqb b 0x5C)) ≡ true = and-left _ (ltb b 0x80) e in
-    let m : (leb 0x20 b && not (eqb b 0x22)) ≡ true = and-left _ (not (eqb b 0x5C)) l in
-    record {
-      low = leb-true 0x20 b (and-left (leb 0x20 b) _ m);
-      quote = eqb-false b 0x22 (not-true _ (and-right (leb 0x20 b) _ m));
-      slash = eqb-false b 0x5C (not-true _ (and-right (leb 0x20 b && not (eqb b 0x22)) _ l));
-      high = ltb-true b 0x80 (and-right (leb 0x20 b && not (eqb b 0x22) && not (eqb b 0x5C)) _ e);
-    }
-
-module _ (s : List ℕ) (i b : ℕ) (e : b ≡ byte s i) (h : plain b ≡ true) where
-  pub plain-inside : i < length s
-  plain-inside = let p = plain-is b h in inside s i b e (omega (arith, p .low))
-
-  pub plain-string : stringAt s (i + 1) ≡ stringAt s i
-  plain-string =
-      let p = plain-is b h in
-      string-on s i b e (p .quote) (to (i + 1)) (character-plain s i b e (p .low) (p .slash) (p .high)) (record { at = i + 1 }) refl
-
+module _ (s : List ℕ) (i b : ℕ) (e : b ≡ byte s i) (t : plain b ≡ true) where
   pub plain-decoded : decodedFrom s i ≡ b ∷ decodedFrom s (i + 1)
   plain-decoded =
-      let p = plain-is b h in
-      from-unit s i Byte (ends-not s i plain-inside (λ z. p .quote (e ∙ z))) (unit-plain s i (λ z. p .slash (e ∙ z))) ∙ ap (λ (x : ℕ). x ∷ decodedFrom s (i + 1)) (sym e)
+      let p = plain-is b t in
+      from-unit s i Byte (ends-not s i (plain-inside s i b e t) (λ z. p .quote (e ∙ z))) (unit-plain s i (λ z. p .slash (e ∙ z))) ∙ ap (λ (x : ℕ). x ∷ decodedFrom s (i + 1)) (sym e)
 
   -- a run goes on by one byte
   pub run-more : (at h : ℕ) → PlainRun s at (record { at = i; key = h }) → (k : ℕ) → k ≡ (h * 16777619 + b) % 4294967296 → k < 4294967296 → PlainRun s at (record { at = i + 1; key = k })
   run-more at h p k q l = record {
-    string = plain-string ∙ p .string;
+    string = plain-string s i b e t ∙ p .string;
     key = key-on 16777619 h (decodedFrom s i) b (decodedFrom s (i + 1)) plain-decoded k q ∙ p .key;
     small = l;
   }
+
+-- ---- the bytes of a block in a key
+module _ (m : ℕ) (s : List ℕ) where
+  pub block-start : (h i n : ℕ) → keyFrom m h (take (n - 0) (drop (i + 0) s)) ≡ keyFrom m h (take n (drop i s))
+  block-start h i n =
+      let p : n - 0 ≡ n = omega arith in
+      let q : i + 0 ≡ i = omega arith in
+      rw (p, q)
+
+  block-first : (n i : ℕ) → i < length s → take (suc n) (drop i s) ≡ byte s i ∷ take n (drop (i + 1) s)
+  block-first n i l = rw (add-one i, drop-cons s i 0 l)
+
+  -- one byte more, k of the n being in the key
+  pub block-on : (h i n k : ℕ) → k < n → i + k < length s → (next : ℕ) → next ≡ (h * m + byte s (i + k)) % 4294967296
+      → keyFrom m next (take (n - (k + 1)) (drop (i + (k + 1)) s)) ≡ keyFrom m h (take (n - k) (drop (i + k) s))
+  block-on h i n k l r next e =
+      let p : n - k ≡ suc (n - (k + 1)) = omega arith in
+      let q : i + (k + 1) ≡ i + k + 1 = omega arith in
+      let f = block-first (n - (k + 1)) (i + k) r in
+      rw (p, q) (key-on m h (take (suc (n - (k + 1))) (drop (i + k) s)) (byte s (i + k)) _ f next e)
+
+  pub block-end : (h i n k : ℕ) → n ≤ k → h ≡ keyFrom m h (take (n - k) (drop (i + k) s))
+  block-end h i n k l = let p : n - k ≡ 0 = omega arith in rw p (key-end m h [] refl)
+
+run-bytes : (s : List ℕ) (at n i h : ℕ) → PlainRun s at (record { at = i; key = h }) → i + n ≤ length s → allAt plain n s i ≡ true
+    → PlainRun s at (record { at = i + n; key = keyFrom 16777619 h (take n (drop i s)) })
+unfolding keyFrom
+run-bytes s at zero i h p l e = let q : i + 0 ≡ i = omega arith in rw q p
+run-bytes s at (suc n) i h p l e =
+    let q : i + suc n ≡ i + 1 + n = omega arith in
+    let k : ℕ = (h * 16777619 + byte s i) % 4294967296 in
+    let one = run-more s i (byte s i) refl (all-first plain s n i e) at h p k refl (omega arith) in
+    rw (q, block-first 16777619 s n i (omega arith)) (run-bytes s at n (i + 1) k one (omega arith) (all-later plain s n i e))
+
+-- a run goes on by n bytes
+pub run-block : (s : List ℕ) (at n i h : ℕ) → PlainRun s at (record { at = i; key = h }) → i + n ≤ length s → allAt plain n s i ≡ true
+    → (k : ℕ) → k ≡ keyFrom 16777619 h (take n (drop i s)) → PlainRun s at (record { at = i + n; key = k })
+run-block s at n i h p l e k q = rw q (run-bytes s at n i h p l e)
 
 -- ---- a run that ends
 module _ (s : List ℕ) (at : ℕ) (r : Run) (p : PlainRun s at r) where
@@ -91,18 +95,10 @@ module _ (s : List ℕ) (at : ℕ) (r : Run) (p : PlainRun s at r) where
     run-to c k h e = rw (← p .string, ← eq, h, ← e)
 
 -- ---- the same bytes in two strings, each for itself
-pub room-is : (i n m : ℕ) → n ≤ m → leb i (m - n) ≡ leb (i + n) m
-room-is i n m h = go (leb (i + n) m) refl where
-  go : (t : Bool) → leb (i + n) m ≡ t → leb i (m - n) ≡ t
-  go true e = let l = leb-true (i + n) m e in le-leb i (m - n) (omega arith)
-  go false e = let l = leb-false (i + n) m e in lt-leb i (m - n) (omega arith)
-
 ordinary-from : (s : List ℕ) (i : ℕ) → i < length s → ordinary (byte s i) ≡ true → decodedFrom s i ≡ byte s i ∷ decodedFrom s (i + 1)
-unfolding ordinary
 ordinary-from s i l h =
-    let q : byte s i ≡ 0x22 → ⊥ = eqb-false _ _ (not-true _ (and-left _ (not (eqb (byte s i) 0x5C)) h)) in
-    let b : byte s i ≡ 0x5C → ⊥ = eqb-false _ _ (not-true _ (and-right (not (eqb (byte s i) 0x22)) _ h)) in
-    from-unit s i Byte (ends-not s i l q) (unit-plain s i b)
+    let o = ordinary-is (byte s i) h in
+    from-unit s i Byte (ends-not s i l (o .quote)) (unit-plain s i (o .slash))
 
 module _ (s t : List ℕ) where
   one-alike : (i j : ℕ) → i < length s → j < length t → (eqb (byte s i) (byte t j) && ordinary (byte s i)) ≡ true
@@ -146,7 +142,4 @@ module _ (s t : List ℕ) where
 
   pub alike-end : (i j n k : ℕ) → n ≤ k → (ok : Bool) → ok ≡ (ok && alike (n - k) s (i + k) t (j + k))
   unfolding alike
-  alike-end i j n k l ok = let m : n - k ≡ 0 = omega arith in rw m (go ok) where
-    go : (t : Bool) → t ≡ (t && true)
-    go true = refl
-    go false = refl
+  alike-end i j n k l ok = let m : n - k ≡ 0 = omega arith in rw m (and-true ok)

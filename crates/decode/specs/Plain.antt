@@ -1,11 +1,12 @@
--- For the code: bytes of a string that stand for themselves and need no further look, and a string read with its key.
+-- For the code: the same bytes in two strings, and a string read with its key.
 use mathlib.Core.Path.{_≡_}
-use mathlib.Core.Bool.{Bool, true, not, _&&_}
+use mathlib.Core.Bool.{Bool, true, _&&_}
 use mathlib.Core.List.{List}
 use Prim.Native.Nat.{ℕ, zero, suc, _+_, _<_}
-use lib.Dec.{eqb, ltb, leb}
+use lib.Dec.{eqb}
 use Rattle.tokens.specs.Text.{byte}
 use Rattle.tokens.specs.String.{stringAt}
+use Rattle.tokens.specs.Blocks.{ordinary}
 use Rattle.tokens.specs.declared.Read.{Read}
 use Rattle.tokens.specs.declared.Read.the-variants as R
 use Rattle.decode.specs.declared.Keyed.{Keyed}
@@ -13,14 +14,6 @@ use Rattle.decode.specs.declared.Keyed.the-variants as K
 use Rattle.decode.specs.declared.Run.{Run}
 use Rattle.decode.specs.Decode.{decodedFrom}
 use Rattle.decode.specs.Same.{keyFrom, keyOf}
-
--- ASCII, and no control byte, quote or backslash
-unfoldable pub plain : ℕ → Bool
-plain b = leb 0x20 b && not (eqb b 0x22) && not (eqb b 0x5C) && ltb b 0x80
-
--- no quote and no backslash
-unfoldable pub ordinary : ℕ → Bool
-ordinary b = not (eqb b 0x22) && not (eqb b 0x5C)
 
 -- the same n bytes stand at two places, each for itself
 unfoldable pub alike : ℕ → List ℕ → ℕ → List ℕ → ℕ → Bool

@@ -1,37 +1,16 @@
 ghost use mathlib.Core.Path.{_≡_};
-ghost use mathlib.Core.Bool.{_&&_};
 ghost use Prim.Native.Nat.{_+_, _<_, _≤_};
 ghost use lib.ListN.{length};
-ghost use lib.Dec.{leb};
 ghost use Rattle.decode.specs.Decode.{decodedFrom};
-ghost use Rattle.decode.specs.Plain.{ordinary, alike};
+ghost use Rattle.decode.specs.Plain.{alike};
 ghost use Rattle.decode.specs.Same.{same};
 use crate::Places;
+use tokens::blocks::both;
+use tokens::blocks::has_room;
+use tokens::blocks::is_ordinary;
 
 // How many bytes are compared at once.
 const BLOCK: usize = 16;
-
-// A byte of a string that stands for itself: no quote and no backslash.
-pub(crate) fn is_ordinary(b: u8) -> bool
-    ensures { λ r. ⌜ r ≡ ordinary b ⌝ }
-{
-    if b == b'"' {
-        return false;
-    }
-    if b == b'\\' {
-        return false;
-    }
-    true
-}
-
-pub(crate) fn both(a: bool, b: bool) -> bool
-    ensures { λ r. ⌜ r ≡ (a && b) ⌝ }
-{
-    if a {
-        return b;
-    }
-    false
-}
 
 // The same n bytes stand at two places, each for itself. No byte ends the loop, so that it is compiled to a comparison of them all.
 pub(crate) fn are_alike(s: &[u8], i: usize, t: &[u8], j: usize, n: usize) -> bool
@@ -51,16 +30,6 @@ pub(crate) fn are_alike(s: &[u8], i: usize, t: &[u8], j: usize, n: usize) -> boo
         k += 1;
     }
     ok
-}
-
-// A text has n bytes from a place on.
-pub(crate) fn has_room(s: &[u8], i: usize, n: usize) -> bool
-    ensures { λ r. ⌜ r ≡ leb (i + n) (length (now (s .entry))) ⌝ }
-{
-    if s.len() < n {
-        return false;
-    }
-    i <= s.len() - n
 }
 
 // Past the bytes that two strings begin with alike, n at a time.

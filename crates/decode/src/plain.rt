@@ -1,36 +1,34 @@
 ghost use mathlib.Core.Path.{_≡_};
-ghost use Prim.Native.Nat.{_+_, _*_, _%_, _<_};
+ghost use Prim.Native.Nat.{_+_, _*_, _%_, _<_, _≤_};
+ghost use lib.ListN.{length, take, drop};
+ghost use Rattle.tokens.specs.Blocks.{plain, allAt};
 ghost use Rattle.tokens.specs.String.{stringAt};
 ghost use Rattle.decode.specs.Decode.{decodedFrom};
-ghost use Rattle.decode.specs.Plain.{plain, keyed, PlainRun};
-ghost use Rattle.decode.specs.Same.{keyOf};
+ghost use Rattle.decode.specs.Plain.{keyed, PlainRun};
+ghost use Rattle.decode.specs.Same.{keyFrom, keyOf};
 use crate::Keyed;
 use crate::Run;
 use crate::text_key;
 use tokens::Cursor;
 use tokens::Read;
+use tokens::blocks::both;
+use tokens::blocks::has_room;
+use tokens::blocks::is_plain;
 use tokens::peek;
+
+// How many bytes are looked at together.
+const BLOCK: usize = 8;
+
+// Bytes of a block: whether all are plain, and the key with them.
+struct Block {
+    plain: bool,
+    key: u64,
+}
 
 // The multipliers of the two keys.
 pub(crate) const FIRST: u64 = 16777619;
 
 pub(crate) const SECOND: u64 = 2654435761;
-
-// A byte of a string that stands for itself: ASCII, and no control byte, quote or backslash.
-pub(crate) fn is_plain(b: u8) -> bool
-    ensures { λ r. ⌜ r ≡ plain b ⌝ }
-{
-    if b < 0x20 {
-        return false;
-    }
-    if b == b'"' {
-        return false;
-    }
-    if b == b'\\' {
-        return false;
-    }
-    b < 0x80
-}
 
 // One byte more in a key of multiplier m.
 pub(crate) fn mix(m: u64, h: u64, b: u8) -> u64
@@ -41,12 +39,54 @@ pub(crate) fn mix(m: u64, h: u64, b: u8) -> u64
     (h * m + b as u64) % 4294967296
 }
 
-// Past the plain bytes from a place on, with their key.
-pub(crate) fn plain_run(s: &[u8], at: usize) -> Run
+// The eight bytes from a place on in a key, and whether they are plain.
+fn mix_block(s: &[u8], i: usize, key: u64) -> Block
+    requires { ⌜ i + 8 ≤ length (now s) ⌝ }
+    requires { ⌜ key < 4294967296 ⌝ }
+    ensures { λ r. ⌜ r .plain ≡ allAt plain 8 (now (s .entry)) i ⌝ }
+    ensures { λ r. ⌜ r .key ≡ keyFrom 16777619 key (take 8 (drop i (now (s .entry)))) ⌝ }
+{
+    let mut ok = true;
+    let mut h = key;
+    let mut k = 0usize;
+    while k < BLOCK {
+        let b = s[i + k];
+        let e = is_plain(b);
+        ok = both(ok, e);
+        h = mix(FIRST, h, b);
+        k += 1;
+    }
+    Block { plain: ok, key: h }
+}
+
+// Past blocks of plain bytes from a place on, with their key.
+fn plain_blocks(s: &[u8], at: usize) -> Run
     ensures { λ r. ⌜ PlainRun (now (s .entry)) at r ⌝ }
 {
     let mut h = 2166136261u64;
     let mut i = at;
+    loop {
+        if has_room(s, i, BLOCK) {
+            let x = mix_block(s, i, h);
+            if x.plain {
+                h = x.key;
+                i += BLOCK;
+            } else {
+                return Run { at: i, key: h };
+            }
+        } else {
+            return Run { at: i, key: h };
+        }
+    }
+}
+
+// Past the plain bytes from a place on, with their key.
+pub(crate) fn plain_run(s: &[u8], at: usize) -> Run
+    ensures { λ r. ⌜ PlainRun (now (s .entry)) at r ⌝ }
+{
+    let p = plain_blocks(s, at);
+    let mut h = p.key;
+    let mut i = p.at;
     loop {
         let b = peek(s, i);
         if is_plain(b) {

@@ -6,13 +6,13 @@ use Prim.Native.Nat.{ℕ}
 use Prim.Native.String.{String}
 use Rattle.tokens.specs.Run.{run, runTurns}
 use Rattle.tokens.specs.Text.{ascii, within, blank, skipTurn, skipWhile}
+use Rattle.tokens.specs.Lists.{all, numberFrom}
 use Rattle.tokens.specs.Group.{colonAt}
 use Rattle.decode.specs.Same.{same}
 use Rattle.decode.specs.Decode.{decodedFrom, decodedUnits, unitAt}
 use Rattle.grammar.specs.Skip.{skipString, skipStringTurn, skipOpen, skipOpenSteps, scalar, skipValue}
 use Rattle.members.specs.Gather.{gather, gatherSteps}
 use Rattle.members.specs.Members.{nextItem, memberStep}
-use Rattle.texts.specs.Texts.{all, numberFrom}
 use Rattle.texts.specs.Lookup.{place}
 use Rattle.fields.specs.declared.FieldType.{FieldType}
 use Rattle.fields.specs.declared.FieldType.the-variants as T

@@ -1,4 +1,5 @@
 pub mod ValueLaws
 pub mod NameLaws
+mod PutLaws
 pub mod ExtensionLaws
 pub mod Edges

@@ -10,10 +10,10 @@ use lib.Seq.{drop-cons, drop-length, take-all, take-nil}
 use lib.Dec.{ltb}
 use borrow.Author.Tests.{eq-eqb, ne-eqb, lt-ltb, le-ltb}
 use Rattle.tokens.specs.Text.{byte}
+use Rattle.tokens.specs.Lists.{all, numberFrom}
 use Rattle.tokens.specs.Number.{digit}
 use Rattle.fields.specs.declared.Uint.{Uint}
 use Rattle.fields.specs.declared.Uint.the-variants as U
-use Rattle.texts.specs.Texts.{all, numberFrom}
 use Rattle.fields.specs.Values.{partOf, digitsFrom, uintOf}
 
 -- ---- a part of a text

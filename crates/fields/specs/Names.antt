@@ -1,9 +1,9 @@
 -- The core names (document 01, "Fields"): a list for each kind of object, each field with its type, the required ones marked.
 use mathlib.Core.Bool.{Bool, true, false, not, _&&_}
 use mathlib.Core.List.{List, [], _∷_, _++_}
-use lib.ListN.{length, getD, replicate}
+use lib.ListN.{getD}
 use lib.Dec.{eqb}
-use Prim.Native.Nat.{ℕ, _-_}
+use Prim.Native.Nat.{ℕ}
 use Prim.Native.String.{String}
 use Rattle.tokens.specs.Text.{ascii}
 use Rattle.fields.specs.declared.Object.{Object}
@@ -117,7 +117,7 @@ annotationNumber A.Latitude = 8
 annotationNumber A.Longitude = 9
 annotationNumber A.Unknown = 10
 
--- ---- for the code: one table of the three lists, the number of each one's first field, and a name filled up with zeros
+-- ---- for the code: one table of the three lists, and the number of each one's first field
 abbrev pub allCore : List Core
 allCore = globals ++ (captures ++ annotations)
 
@@ -125,9 +125,6 @@ abbrev pub firstOf : Object → ℕ
 firstOf O.Global = 0
 firstOf O.Capture = 20
 firstOf O.Annotation = 26
-
-abbrev pub filled : List ℕ → List ℕ
-filled n = n ++ replicate (20 - length n) 0
 
 -- a byte of a name that stands for itself: neither a backslash nor a quote
 unfoldable pub verbatim : ℕ → Bool

@@ -6,8 +6,8 @@ use Prim.Native.Nat.{ℕ, _-_, _^_}
 use lib.ListN.{length, take, drop}
 use lib.Dec.{eqb, ltb}
 use Rattle.tokens.specs.Text.{byte}
+use Rattle.tokens.specs.Lists.{all, numberFrom}
 use Rattle.tokens.specs.Number.{digit}
-use Rattle.texts.specs.Texts.{all, numberFrom}
 use Rattle.fields.specs.declared.Uint.{Uint}
 use Rattle.fields.specs.declared.Uint.the-variants as U
 use Rattle.fields.specs.declared.FieldType.{FieldType}

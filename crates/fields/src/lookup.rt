@@ -1,137 +1,133 @@
 ghost use mathlib.Core.Path.{_≡_};
-ghost use Prim.Native.Nat.{_<_};
-ghost use lib.ListN.{length};
+ghost use Prim.Native.Nat.{_<_, _≤_};
+ghost use lib.ListN.{length, take};
+ghost use Rattle.tokens.specs.Lists.{all};
 ghost use Rattle.decode.specs.Same.{same};
 ghost use Rattle.texts.specs.Lookup.{place};
-ghost use Rattle.texts.specs.Texts.{all, nameText};
-ghost use Rattle.fields.specs.Names.{coreOf, coreName, coreAt, typeAt, allCore, firstOf, filled, verbatim};
+ghost use Rattle.texts.specs.Texts.{nameText};
+ghost use Rattle.fields.specs.Names.{coreOf, coreName, coreAt, typeAt, allCore, firstOf, verbatim};
 use crate::FieldType;
 use crate::Object;
-use decode::text_is;
+use decode::Stream;
+use decode::next_byte;
+use tokens::blocks::both;
+use tokens::peek;
 
-// The core fields of the global object, a capture and an annotation stand in one table, by number: their names' lengths, the types of
-// their values and, below, their names. A constant that is an array is built anew wherever it is used, a match is not; so the names,
-// which are long, are a match.
-const LENGTHS: [u8; 36] = [
-    13,
-    12,
-    11,
-    16,
-    11,
-    13,
-    13,
-    13,
-    12,
-    7,
-    12,
-    15,
-    17,
-    11,
-    19,
-    16,
-    9,
-    18,
-    16,
-    15,
-    17,
-    17,
-    17,
-    14,
-    13,
-    16,
-    17,
-    17,
-    14,
-    10,
-    12,
-    9,
-    20,
-    20,
-    13,
-    14,
-];
+// The core fields of the global object, a capture and an annotation stand in one table, by number. A constant that is an array is
+// built anew wherever it is used, a match is not; so the table is two matches.
 
-const TYPES: [FieldType; 36] = [
-    FieldType::Text,
-    FieldType::Text,
-    FieldType::Text,
-    FieldType::Text,
-    FieldType::Text,
-    FieldType::Text,
-    FieldType::Text,
-    FieldType::Text,
-    FieldType::Text,
-    FieldType::Text,
-    FieldType::Text,
-    FieldType::Text,
-    FieldType::Uint,
-    FieldType::Uint,
-    FieldType::Uint,
-    FieldType::Double,
-    FieldType::Double,
-    FieldType::Boolean,
-    FieldType::Object,
-    FieldType::Array,
-    FieldType::Uint,
-    FieldType::Uint,
-    FieldType::Uint,
-    FieldType::Double,
-    FieldType::Text,
-    FieldType::Object,
-    FieldType::Uint,
-    FieldType::Uint,
-    FieldType::Text,
-    FieldType::Text,
-    FieldType::Text,
-    FieldType::Text,
-    FieldType::Double,
-    FieldType::Double,
-    FieldType::Any,
-    FieldType::Any,
-];
-
-// The name with a number in the table, filled up with zeros.
-fn name_at(k: usize) -> [u8; 20]
-    ensures { λ r. ⌜ r ≡ filled (coreName (coreAt allCore k)) ⌝ }
+// The type of the value of the field with a number in the table.
+fn type_at(k: usize) -> FieldType
+    ensures { λ r. ⌜ r ≡ typeAt allCore k ⌝ }
 {
     match k {
-        0 => *b"core:datatype\0\0\0\0\0\0\0",
-        1 => *b"core:version\0\0\0\0\0\0\0\0",
-        2 => *b"core:sha512\0\0\0\0\0\0\0\0\0",
-        3 => *b"core:description\0\0\0\0",
-        4 => *b"core:author\0\0\0\0\0\0\0\0\0",
-        5 => *b"core:meta_doi\0\0\0\0\0\0\0",
-        6 => *b"core:data_doi\0\0\0\0\0\0\0",
-        7 => *b"core:recorder\0\0\0\0\0\0\0",
-        8 => *b"core:license\0\0\0\0\0\0\0\0",
-        9 => *b"core:hw\0\0\0\0\0\0\0\0\0\0\0\0\0",
-        10 => *b"core:dataset\0\0\0\0\0\0\0\0",
-        11 => *b"core:collection\0\0\0\0\0",
-        12 => *b"core:num_channels\0\0\0",
-        13 => *b"core:offset\0\0\0\0\0\0\0\0\0",
-        14 => *b"core:trailing_bytes\0",
-        15 => *b"core:sample_rate\0\0\0\0",
-        16 => *b"core:hagl\0\0\0\0\0\0\0\0\0\0\0",
-        17 => *b"core:metadata_only\0\0",
-        18 => *b"core:geolocation\0\0\0\0",
-        19 => *b"core:extensions\0\0\0\0\0",
-        20 => *b"core:sample_start\0\0\0",
-        21 => *b"core:global_index\0\0\0",
-        22 => *b"core:header_bytes\0\0\0",
-        23 => *b"core:frequency\0\0\0\0\0\0",
-        24 => *b"core:datetime\0\0\0\0\0\0\0",
-        25 => *b"core:geolocation\0\0\0\0",
-        26 => *b"core:sample_start\0\0\0",
-        27 => *b"core:sample_count\0\0\0",
-        28 => *b"core:generator\0\0\0\0\0\0",
-        29 => *b"core:label\0\0\0\0\0\0\0\0\0\0",
-        30 => *b"core:comment\0\0\0\0\0\0\0\0",
-        31 => *b"core:uuid\0\0\0\0\0\0\0\0\0\0\0",
-        32 => *b"core:freq_lower_edge",
-        33 => *b"core:freq_upper_edge",
-        34 => *b"core:latitude\0\0\0\0\0\0\0",
-        35 => *b"core:longitude\0\0\0\0\0\0",
-        _ => [0u8; 20],
+        0 => FieldType::Text,
+        1 => FieldType::Text,
+        2 => FieldType::Text,
+        3 => FieldType::Text,
+        4 => FieldType::Text,
+        5 => FieldType::Text,
+        6 => FieldType::Text,
+        7 => FieldType::Text,
+        8 => FieldType::Text,
+        9 => FieldType::Text,
+        10 => FieldType::Text,
+        11 => FieldType::Text,
+        12 => FieldType::Uint,
+        13 => FieldType::Uint,
+        14 => FieldType::Uint,
+        15 => FieldType::Double,
+        16 => FieldType::Double,
+        17 => FieldType::Boolean,
+        18 => FieldType::Object,
+        19 => FieldType::Array,
+        20 => FieldType::Uint,
+        21 => FieldType::Uint,
+        22 => FieldType::Uint,
+        23 => FieldType::Double,
+        24 => FieldType::Text,
+        25 => FieldType::Object,
+        26 => FieldType::Uint,
+        27 => FieldType::Uint,
+        28 => FieldType::Text,
+        29 => FieldType::Text,
+        30 => FieldType::Text,
+        31 => FieldType::Text,
+        32 => FieldType::Double,
+        33 => FieldType::Double,
+        34 => FieldType::Any,
+        35 => FieldType::Any,
+        _ => FieldType::Any,
+    }
+}
+
+// Two texts of one length are equal. No byte ends the loop, so that it is compiled to a comparison of them all.
+fn are_equal(a: &[u8], b: &[u8]) -> bool
+    requires { ⌜ length (now a) ≡ length (now b) ⌝ }
+    ensures { λ r. ⌜ r ≡ same (now (a .entry)) (now (b .entry)) ⌝ }
+{
+    let mut ok = true;
+    let mut i = 0usize;
+    while i < b.len() {
+        let e = a[i] == b[i];
+        ok = both(ok, e);
+        i += 1;
+    }
+    ok
+}
+
+// Two texts are equal.
+fn is_word(text: &[u8], word: &[u8]) -> bool
+    ensures { λ r. ⌜ r ≡ same (now (text .entry)) (now (word .entry)) ⌝ }
+{
+    if text.len() == word.len() {
+        return are_equal(text, word);
+    }
+    false
+}
+
+// A text is the name of the field with a number in the table.
+fn is_named(text: &[u8], k: usize) -> bool
+    ensures { λ r. ⌜ r ≡ same (now (text .entry)) (coreName (coreAt allCore k)) ⌝ }
+{
+    match k {
+        0 => is_word(text, b"core:datatype"),
+        1 => is_word(text, b"core:version"),
+        2 => is_word(text, b"core:sha512"),
+        3 => is_word(text, b"core:description"),
+        4 => is_word(text, b"core:author"),
+        5 => is_word(text, b"core:meta_doi"),
+        6 => is_word(text, b"core:data_doi"),
+        7 => is_word(text, b"core:recorder"),
+        8 => is_word(text, b"core:license"),
+        9 => is_word(text, b"core:hw"),
+        10 => is_word(text, b"core:dataset"),
+        11 => is_word(text, b"core:collection"),
+        12 => is_word(text, b"core:num_channels"),
+        13 => is_word(text, b"core:offset"),
+        14 => is_word(text, b"core:trailing_bytes"),
+        15 => is_word(text, b"core:sample_rate"),
+        16 => is_word(text, b"core:hagl"),
+        17 => is_word(text, b"core:metadata_only"),
+        18 => is_word(text, b"core:geolocation"),
+        19 => is_word(text, b"core:extensions"),
+        20 => is_word(text, b"core:sample_start"),
+        21 => is_word(text, b"core:global_index"),
+        22 => is_word(text, b"core:header_bytes"),
+        23 => is_word(text, b"core:frequency"),
+        24 => is_word(text, b"core:datetime"),
+        25 => is_word(text, b"core:geolocation"),
+        26 => is_word(text, b"core:sample_start"),
+        27 => is_word(text, b"core:sample_count"),
+        28 => is_word(text, b"core:generator"),
+        29 => is_word(text, b"core:label"),
+        30 => is_word(text, b"core:comment"),
+        31 => is_word(text, b"core:uuid"),
+        32 => is_word(text, b"core:freq_lower_edge"),
+        33 => is_word(text, b"core:freq_upper_edge"),
+        34 => is_word(text, b"core:latitude"),
+        35 => is_word(text, b"core:longitude"),
+        _ => is_word(text, b""),
     }
 }
 
@@ -157,75 +153,117 @@ pub(crate) fn core_count(kind: Object) -> usize
     }
 }
 
-// The name of field i of a kind of object, filled up with zeros.
-fn core_name(kind: Object, i: usize) -> [u8; 20]
-    requires { ⌜ i < length (coreOf kind) ⌝ }
-    ensures { λ r. ⌜ r ≡ filled (coreName (coreAt (coreOf kind) i)) ⌝ }
-{
-    name_at(core_first(kind) + i)
-}
-
-// How many bytes it has.
-fn core_length(kind: Object, i: usize) -> usize
-    requires { ⌜ i < length (coreOf kind) ⌝ }
-    ensures { λ r. ⌜ r ≡ length (coreName (coreAt (coreOf kind) i)) ⌝ }
-{
-    let k = core_first(kind) + i;
-    let n = LENGTHS[k];
-    n as usize
-}
-
-// The type of its value.
+// The type of the value of field i of a kind of object.
 pub(crate) fn core_type(kind: Object, i: usize) -> FieldType
     requires { ⌜ i < length (coreOf kind) ⌝ }
     ensures { λ r. ⌜ r ≡ typeAt (coreOf kind) i ⌝ }
 {
-    let k = core_first(kind) + i;
-    TYPES[k]
+    type_at(core_first(kind) + i)
 }
 
-// Two texts of one length are equal.
-fn same_bytes(a: &[u8], b: &[u8]) -> bool
-    requires { ⌜ length (now a) ≡ length (now b) ⌝ }
-    ensures { λ r. ⌜ r ≡ same (now (a .entry)) (now (b .entry)) ⌝ }
-{
-    let mut i = 0usize;
-    while i < a.len() {
-        if a[i] == b[i] {
-            i += 1;
-        } else {
-            return false;
-        }
-    }
-    true
-}
-
-// The raw name is that of field i; most are told apart by their lengths.
-fn raw_is(kind: Object, i: usize, raw: &[u8]) -> bool
+// A text is the name of field i.
+fn is_field(kind: Object, text: &[u8], i: usize) -> bool
     requires { ⌜ i < length (coreOf kind) ⌝ }
-    ensures { λ r. ⌜ r ≡ same (now (raw .entry)) (coreName (coreAt (coreOf kind) i)) ⌝ }
+    ensures { λ r. ⌜ r ≡ same (now (text .entry)) (coreName (coreAt (coreOf kind) i)) ⌝ }
 {
-    let n = core_length(kind, i);
-    if raw.len() == n {
-        let name = core_name(kind, i);
-        return same_bytes(raw, &name[..n]);
-    }
-    false
+    is_named(text, core_first(kind) + i)
 }
 
-// The number of the field with the raw name, or how many there are.
-pub(crate) fn raw_place(kind: Object, raw: &[u8]) -> usize
-    ensures { λ r. ⌜ r ≡ place coreName (coreOf kind) (now (raw .entry)) ⌝ }
+// The field to try first, by a name's length and one byte of it; any number will do.
+fn likely_capture(n: usize, b: u8) -> usize {
+    match n {
+        17 => likely_of(b == b's', 0, likely_of(b == b'g', 1, 2)),
+        14 => 3,
+        13 => 4,
+        _ => 5,
+    }
+}
+
+fn likely_annotation(n: usize, b: u8) -> usize {
+    match n {
+        17 => likely_of(b == b's', 0, 1),
+        14 => likely_of(b == b'o', 2, 9),
+        10 => 3,
+        12 => 4,
+        9 => 5,
+        20 => likely_of(b == b'w', 6, 7),
+        _ => 8,
+    }
+}
+
+fn likely_of(a: bool, x: usize, y: usize) -> usize {
+    if a {
+        return x;
+    }
+    y
+}
+
+fn likely(kind: Object, raw: &[u8]) -> usize {
+    match kind {
+        Object::Global => 0,
+        Object::Capture => likely_capture(raw.len(), peek(raw, 5)),
+        Object::Annotation => likely_annotation(raw.len(), peek(raw, 12)),
+    }
+}
+
+// The number of the field with a name, or how many there are.
+fn search(kind: Object, text: &[u8]) -> usize
+    ensures { λ r. ⌜ r ≡ place coreName (coreOf kind) (now (text .entry)) ⌝ }
 {
     let n = core_count(kind);
     let mut i = 0usize;
     while i < n {
-        if raw_is(kind, i, raw) {
+        if is_field(kind, text, i) {
             return i;
         }
         i += 1;
     }
     i
+}
+
+// The same, with the likely field tried first.
+pub(crate) fn raw_place(kind: Object, raw: &[u8]) -> usize
+    ensures { λ r. ⌜ r ≡ place coreName (coreOf kind) (now (raw .entry)) ⌝ }
+{
+    let i = likely(kind, raw);
+    if i < core_count(kind) {
+        if is_field(kind, raw, i) {
+            return i;
+        }
+        return search(kind, raw);
+    }
+    search(kind, raw)
+}
+
+// A name's decoded text, as much as there is room for, and how many bytes that is.
+fn put_decoded(raw: &[u8], out: &mut [u8]) -> usize
+    ensures { λ r. ⌜ r ≤ length (now (out .exit)) ⌝ }
+    ensures { λ r. ⌜ length (now (out .exit)) ≡ length (now (out .entry)) ⌝ }
+    ensures { λ r. ⌜ take r (now (out .exit)) ≡ take (length (now (out .entry))) (nameText (now (raw .entry))) ⌝ }
+{
+    let mut j = 0usize;
+    let mut k = 0usize;
+    let mut n = 0usize;
+    while n < out.len() {
+        let g = next_byte(raw, j, k);
+        let Stream::Next(b, m, l) = g else {
+            return n;
+        };
+        out[n] = b;
+        j = m;
+        k = l;
+        n += 1;
+    }
+    n
+}
+
+// The number of the field with a name's decoded text, or how many there are. No field's name has more than 20 bytes.
+pub(crate) fn decoded_place(kind: Object, raw: &[u8]) -> usize
+    ensures { λ r. ⌜ r ≡ place coreName (coreOf kind) (nameText (now (raw .entry))) ⌝ }
+{
+    let mut text = [0u8; 21];
+    let n = put_decoded(raw, &mut text);
+    search(kind, &text[..n])
 }
 
 // A name is its own decoded text: no byte of it is a backslash or a quote.
@@ -244,29 +282,4 @@ pub(crate) fn is_verbatim(raw: &[u8]) -> bool
         i += 1;
     }
     true
-}
-
-// The decoded name is that of field i.
-fn decoded_is(kind: Object, i: usize, raw: &[u8]) -> bool
-    requires { ⌜ i < length (coreOf kind) ⌝ }
-    ensures { λ r. ⌜ r ≡ same (nameText (now (raw .entry))) (coreName (coreAt (coreOf kind) i)) ⌝ }
-{
-    let name = core_name(kind, i);
-    let n = core_length(kind, i);
-    text_is(raw, 0, &name[..n])
-}
-
-// The number of the field with the decoded name, or how many there are.
-pub(crate) fn decoded_place(kind: Object, raw: &[u8]) -> usize
-    ensures { λ r. ⌜ r ≡ place coreName (coreOf kind) (nameText (now (raw .entry))) ⌝ }
-{
-    let n = core_count(kind);
-    let mut i = 0usize;
-    while i < n {
-        if decoded_is(kind, i, raw) {
-            return i;
-        }
-        i += 1;
-    }
-    i
 }

@@ -3,7 +3,7 @@ use mathlib.Core.Path.{_≡_, refl}
 use mathlib.Core.List.{[], _∷_}
 use Rattle.tokens.specs.Run.{runTurns, run}
 use Rattle.tokens.specs.Text.{ascii, within, skipTurn, skipWhile}
-use Rattle.decimal.specs.Decimal.{numberFrom}
+use Rattle.tokens.specs.Lists.{numberFrom}
 use Rattle.first_line.specs.declared.FirstLine.the-variants.{Size, Other}
 use Rattle.first_line.specs.FirstLine.{isFirstLine, firstLine}
 

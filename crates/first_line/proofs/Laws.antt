@@ -10,10 +10,10 @@ use lib.Seq.{drop-cons, getD-take}
 use lib.Dec.{eqb, leb}
 use borrow.Author.Tests.{le-leb, lt-leb, eq-eqb, ne-eqb, eqb-true}
 use Rattle.tokens.specs.Text.{byte, within}
+use Rattle.tokens.specs.Lists.{numberFrom}
 use Rattle.tokens.specs.Number.{digit, skipDigits}
 use Rattle.tokens.proofs.TextLaws.{inside, cond-elim, within-above, good-inside, skip-on, skip-out, skip-onward}
 use Rattle.tokens.proofs.NumberLaws.{no-digit}
-use Rattle.decimal.specs.Decimal.{numberFrom}
 use Rattle.first_line.specs.declared.FirstLine.{FirstLine}
 use Rattle.first_line.specs.declared.FirstLine.the-variants.{Size, Other}
 use Rattle.first_line.specs.FirstLine.{digitCount, leadingNumber, isFirstLine, firstLine}

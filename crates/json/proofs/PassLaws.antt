@@ -11,6 +11,7 @@ use lib.Dec.{eqb, ltb, leb}
 use borrow.Author.Tests.{lt-ltb, le-ltb, leb-true, leb-false, eqb-true, ltb-true, ltb-false}
 use Rattle.limits.specs.Limits.{members}
 use Rattle.tokens.specs.Text.{byte, to, blank, skipBlanks}
+use Rattle.tokens.specs.Lists.{any}
 use Rattle.tokens.specs.Group.{afterItem, colonAt, nameAt}
 use Rattle.tokens.specs.declared.Cursor.{Cursor}
 use Rattle.tokens.specs.declared.Read.{Read}
@@ -38,7 +39,7 @@ use Rattle.json.specs.declared.Named.{Named}
 use Rattle.json.specs.declared.Named.the-variants as D
 use Rattle.json.specs.declared.Names.{Names}
 use Rattle.json.specs.Judged.{scanned, named}
-use Rattle.json.specs.Names.{nameOf, has, repeated, badNames, any, badArray, badObject, badMembersAt}
+use Rattle.json.specs.Names.{nameOf, has, repeated, badNames, badArray, badObject, badMembersAt}
 use Rattle.json.specs.Stack.{namesOn, keptKey, KeysAgree, refuses, NameKept, kept, refused, badArrayAt, badObjectAt, Kept}
 
 -- ---- what a scan tells

@@ -7,6 +7,7 @@ use lib.ListN.{length}
 use lib.Dec.{eqb, ltb}
 use Rattle.limits.specs.Limits.{members}
 use Rattle.tokens.specs.Text.{byte}
+use Rattle.tokens.specs.Lists.{any}
 use Rattle.decode.specs.Decode.{decodedFrom}
 use Rattle.decode.specs.Same.{same}
 use Rattle.members.specs.declared.Member.{Member}
@@ -29,10 +30,6 @@ repeated seen (n ∷ l) = has n seen || repeated (n ∷ seen) l
 -- a name twice, or over 256 members
 unfoldable pub badNames : List (List ℕ) → Bool
 badNames names = repeated [] names || ltb members (length names)
-
-unfoldable pub any : {A : Type 0} → (A → Bool) → List A → Bool
-any f [] = false
-any f (x ∷ l) = f x || any f l
 
 -- an object has such names, or one of its values has such an object in it
 abbrev pub badObject : (ℕ → Bool) → List ℕ → List Member → Bool

@@ -20,6 +20,7 @@ use crate::lines::recording_length;
 use table::Summary;
 
 // How many bytes were written, or why none.
+#[repr(C)]
 pub struct Listed {
     pub refusal: u64,
     pub bytes: u64,

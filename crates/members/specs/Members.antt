@@ -11,6 +11,8 @@ use Rattle.tokens.specs.declared.Read.the-variants as R
 use Rattle.grammar.specs.Skip.{skipString, skipValue}
 use Rattle.members.specs.declared.Member.{Member}
 use Rattle.members.specs.declared.Element.{Element}
+use Rattle.members.specs.declared.NameStep.{NameStep}
+use Rattle.members.specs.declared.NameStep.the-variants as N
 use Rattle.members.specs.declared.MemberStep.{MemberStep}
 use Rattle.members.specs.declared.MemberStep.the-variants as M
 use Rattle.members.specs.declared.ElementStep.{ElementStep}
@@ -21,7 +23,15 @@ use Rattle.members.specs.Gather.{Step, found, stop, gather, gatherEnd}
 unfoldable pub nextItem : List ℕ → ℕ → ℕ
 nextItem s at = cond (eqb (byte s (skipBlanks s at)) 0x2C) (skipBlanks s (skipBlanks s at + 1)) (skipBlanks s at)
 
--- a name that begins at a place and ends before e, with the value that a colon leads to
+-- a name that begins at a place and ends before e, with the place that a colon leads to
+abbrev pub nameTo : ℕ → ℕ → Read → NameStep
+nameTo at e (R.To v) = N.Found (record { name = at + 1; quote = e - 1; value = v .at })
+nameTo at e R.Bad = N.End
+
+unfoldable pub nameStep : List ℕ → ℕ → NameStep
+nameStep s at = cond (eqb (byte s at) 0x22) (nameTo at (skipString s (at + 1)) (colonAt s (skipString s (at + 1)))) N.End
+
+-- and with the value there
 abbrev pub memberTo : List ℕ → ℕ → ℕ → Read → MemberStep
 memberTo s at e (R.To v) = M.Found (record { name = at + 1; quote = e - 1; value = v .at; end = skipValue s (v .at) }) (nextItem s (skipValue s (v .at)))
 memberTo s at e R.Bad = M.End

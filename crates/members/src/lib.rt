@@ -1,12 +1,16 @@
 // The members of objects and the elements of arrays of a text that is JSON, one by one.
 ghost use mathlib.Core.Path.{_≡_};
-ghost use Prim.Native.Nat.{ℕ, _<_};
+ghost use Prim.Native.Nat.{ℕ, _<_, _+_, _≤_};
 ghost use lib.ListN.{length};
 ghost use Rattle.grammar.specs.Skip.{skipString, opens, closes, skipOpen, scalar, skipValue};
 ghost use Rattle.tokens.specs.Text.{skipWhile};
-ghost use Rattle.members.specs.Members.{nextItem, memberStep, elementStep};
+ghost use Rattle.tokens.specs.Blocks.{ordinary, allAt};
+ghost use Rattle.members.specs.Members.{nextItem, nameStep, memberStep, elementStep};
 use tokens::Cursor;
 use tokens::Read;
+use tokens::blocks::both;
+use tokens::blocks::has_room;
+use tokens::blocks::is_ordinary;
 use tokens::is_blank;
 use tokens::peek;
 
@@ -16,6 +20,13 @@ pub struct Member {
     pub quote: usize,
     pub value: usize,
     pub end: usize,
+}
+
+// A member's name: its raw bytes' place, that of its closing quote, and that of the value.
+pub struct MemberName {
+    pub name: usize,
+    pub quote: usize,
+    pub value: usize,
 }
 
 // An element of an array: its place, and the one past it.
@@ -30,17 +41,60 @@ pub enum MemberStep {
     End,
 }
 
+// The name of the member at a place.
+pub enum NameStep {
+    Found(MemberName),
+    End,
+}
+
 // The element at a place, and where the next one, or the close, stands.
 pub enum ElementStep {
     Found(Element, usize),
     End,
 }
 
+// How many bytes are passed at once.
+const BLOCK: usize = 8;
+
+// The eight bytes from a place on are no quotes and no backslashes. No byte ends the loop, so that it is compiled to a comparison of
+// them all.
+fn are_ordinary(s: &[u8], i: usize) -> bool
+    requires { ⌜ i + 8 ≤ length (now s) ⌝ }
+    ensures { λ r. ⌜ r ≡ allAt ordinary 8 (now (s .entry)) i ⌝ }
+{
+    let mut ok = true;
+    let mut k = 0usize;
+    while k < BLOCK {
+        let e = is_ordinary(s[i + k]);
+        ok = both(ok, e);
+        k += 1;
+    }
+    ok
+}
+
+// Past blocks of such bytes.
+fn skip_ordinary(s: &[u8], at: usize) -> usize
+    ensures { λ r. ⌜ skipString (now (s .entry)) r ≡ skipString (now (s .entry)) at ⌝ }
+{
+    let mut i = at;
+    loop {
+        if has_room(s, i, BLOCK) {
+            if are_ordinary(s, i) {
+                i += BLOCK;
+            } else {
+                return i;
+            }
+        } else {
+            return i;
+        }
+    }
+}
+
 // Past a string, from past its opening quote.
 pub(crate) fn skip_string(s: &[u8], at: usize) -> usize
     ensures { λ r. ⌜ r ≡ skipString (now (s .entry)) at ⌝ }
 {
-    let mut i = at;
+    let mut i = skip_ordinary(s, at);
     while i < s.len() {
         let b = s[i];
         if b == b'"' {
@@ -154,37 +208,51 @@ pub fn next_item(s: &[u8], at: usize) -> usize
     let k = c.at;
     let b = peek(s, k);
     if b == b',' {
-        let d = Cursor { at: k + 1 }.skip_blanks(s);
+        let d = Cursor { at: k + 1 }.skip_indent(s);
         return d.at;
     }
     k
 }
 
-// The member of an object at a place.
-pub fn next_member(s: &[u8], at: usize) -> MemberStep
-    ensures { λ r. ⌜ r ≡ memberStep (now (s .entry)) at ⌝ }
+// The name of the member of an object at a place.
+pub fn next_name(s: &[u8], at: usize) -> NameStep
+    ensures { λ r. ⌜ r ≡ nameStep (now (s .entry)) at ⌝ }
 {
     let b = peek(s, at);
     if b == b'"' {
         let e = skip_string(s, at + 1);
         let r = Cursor { at: e }.colon(s);
         let Read::To(c) = r else {
-            return MemberStep::End;
+            return NameStep::End;
         };
-        let v = c.at;
-        let w = skip_value(s, v);
-        let j = next_item(s, w);
-        return MemberStep::Found(
-            Member {
-                name: at + 1,
-                quote: e - 1,
-                value: v,
-                end: w,
-            },
-            j,
-        );
+        return NameStep::Found(MemberName {
+            name: at + 1,
+            quote: e - 1,
+            value: c.at,
+        });
     }
-    MemberStep::End
+    NameStep::End
+}
+
+// The member of an object at a place.
+pub fn next_member(s: &[u8], at: usize) -> MemberStep
+    ensures { λ r. ⌜ r ≡ memberStep (now (s .entry)) at ⌝ }
+{
+    let g = next_name(s, at);
+    let NameStep::Found(n) = g else {
+        return MemberStep::End;
+    };
+    let w = skip_value(s, n.value);
+    let j = next_item(s, w);
+    MemberStep::Found(
+        Member {
+            name: n.name,
+            quote: n.quote,
+            value: n.value,
+            end: w,
+        },
+        j,
+    )
 }
 
 // The element of an array at a place.

@@ -8,6 +8,7 @@ use lib.ListN.{length, List·getD-eq-default}
 use Rattle.refusals.specs.Refusals.{rule, lowest, least}
 use Rattle.refusals.proofs.LeastLaws.{least-none, least-unit, least-assoc}
 use Rattle.tokens.specs.Text.{skipBlanks}
+use Rattle.tokens.specs.Lists.{any}
 use Rattle.tokens.proofs.TextLaws.{blanks-onward}
 use Rattle.grammar.specs.Skip.{skipValue, scalar}
 use Rattle.members.specs.declared.Element.{Element}
@@ -20,7 +21,7 @@ use Rattle.fields.specs.declared.Extension.the-variants as E
 use Rattle.fields.specs.Values.{partOf}
 use Rattle.fields.specs.Extensions.{extensionOf, extensionRefusal}
 use Rattle.objects.specs.Places.{noted}
-use Rattle.objects.specs.Global.{any, isMalformed, isNeeded, entriesOf, entriesRules}
+use Rattle.objects.specs.Global.{isMalformed, isNeeded, entriesOf, entriesRules}
 use Rattle.objects.proofs.ValueLaws.{given-none, given-some}
 
 abbrev pub entriesLow : List Extension → ℕ

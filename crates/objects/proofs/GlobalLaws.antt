@@ -12,6 +12,7 @@ use Rattle.refusals.specs.Refusals.{rule, lowest, least}
 use Rattle.refusals.proofs.LeastLaws.{least-none, Ascending, rulesOf, either, lowest-either}
 use Rattle.limits.specs.Limits.{channels}
 use Rattle.tokens.specs.Text.{within}
+use Rattle.tokens.specs.Lists.{any}
 use Rattle.grammar.specs.Skip.{skipValue}
 use Rattle.datatypes.specs.Datatypes.{twelve, datatypes, listed}
 use Rattle.texts.specs.Texts.{valueText, versionOk, codeOf}
@@ -22,7 +23,7 @@ use Rattle.fields.specs.Names.{globals}
 use Rattle.layout.specs.declared.Globals.{Globals}
 use Rattle.objects.specs.Fields.{Value, fieldsAt, closeAt, valueIn, given, isAbsent, uintOr, missingFrom, missing}
 use Rattle.objects.specs.Places.{noted, Noted, walkLow}
-use Rattle.objects.specs.Global.{isOtherVersion, otherVersion, datatypeCode, isOtherDatatype, otherDatatype, channelsOf, areBadChannels, badChannels, entriesOf, any, isMalformed, isNeeded, badExtension, needsExtension, lacksDataset, noDataset, globalRules, globalsOf, globalsIn, globalAt, placed, firstRules, entriesRules, laterRules, placedRules}
+use Rattle.objects.specs.Global.{isOtherVersion, otherVersion, datatypeCode, isOtherDatatype, otherDatatype, channelsOf, areBadChannels, badChannels, entriesOf, isMalformed, isNeeded, badExtension, needsExtension, lacksDataset, noDataset, globalRules, globalsOf, globalsIn, globalAt, placed, firstRules, entriesRules, laterRules, placedRules}
 use Rattle.objects.proofs.WalkLaws.{or-false}
 use Rattle.objects.proofs.ValueLaws.{given-none, absent, present, given-some}
 use Rattle.objects.proofs.ObjectLaws.{object-low}

@@ -12,18 +12,18 @@ use Rattle.refusals.specs.Refusals.{Rule, rule, lowest, least}
 use Rattle.refusals.proofs.LeastLaws.{least-none, Ascending, rulesOf, either, lowest-either}
 use Rattle.fields.specs.declared.CaptureField.the-variants as CF
 use Rattle.fields.specs.declared.AnnotationField.the-variants as AF
-use Rattle.fields.specs.Names.{Core, captures, annotations}
+use Rattle.fields.specs.Names.{Core, captures, annotations, coreAt, typeAt}
 use Rattle.layout.specs.declared.CaptureEntry.{CaptureEntry}
 use Rattle.layout.specs.declared.AnnotationEntry.{AnnotationEntry}
 use Rattle.layout.specs.declared.Count.{Count}
 use Rattle.objects.specs.declared.CaptureFound.{CaptureFound}
 use Rattle.objects.specs.declared.AnnotationFound.{AnnotationFound}
-use Rattle.objects.specs.Fields.{Value, Field, fieldsAt, closeAt, valueIn, isAbsent, uintOr, misnamed, missingFrom, missing, mistyped}
-use Rattle.objects.specs.Places.{noted, Noted, Within, Clear, walkLow}
+use Rattle.objects.specs.Fields.{Value, Field, fieldsAt, closeAt, valueIn, given, isAbsent, uintOr, misnamed, missingFrom, missing, mistyped}
+use Rattle.objects.specs.Places.{noted, Noted, sizeAs, sizeOf, Measured, Within, Clear, walkLow}
 use Rattle.objects.specs.Capture.{breaksRule, badDatetime, captureRules, captureAt}
-use Rattle.objects.specs.Annotation.{countOf, textPlace, textLength, annotationRules, annotationAt}
+use Rattle.objects.specs.Annotation.{countOf, textPlace, textLength, annotationRules, annotationAt, countBy, textPlaceBy, textLengthBy}
 use Rattle.objects.proofs.WalkLaws.{or-false}
-use Rattle.objects.proofs.ValueLaws.{absent-is}
+use Rattle.objects.proofs.ValueLaws.{absent-is, count-by, text-place-by, text-length-by}
 
 pub clear-zeros : (n : ℕ) → Clear (replicate n 0)
 unfolding Clear
@@ -51,47 +51,77 @@ object-low cs fs m ns bs h em walk others low ew eo el =
     rw (em, walk-and (misnamed fs) m (mistyped cs fs) ns bs h, ← ew, ← eo) el
 
 -- ---- a capture
-module _ (s : List ℕ) (at : ℕ) (places : List ℕ) (n : Noted s captures (fieldsAt s at) places) where
+module _ (s : List ℕ) (at : ℕ) (places sizes : List ℕ) (n : Noted s captures (fieldsAt s at) places) (m : Measured captures (fieldsAt s at) sizes) where
   capture-place : (i : ℕ) → i < 6 → noted s (getD places i 0) ≡ valueIn captures i (fieldsAt s at)
   unfolding Noted captures
   capture-place i h = sym (n i h)
+
+  capture-size : (i : ℕ) → i < 6 → getD sizes i 0 ≡ sizeOf (typeAt captures i) (valueIn captures i (fieldsAt s at))
+  unfolding Measured captures
+  capture-size i h = m i h
+
+  capture-start : getD sizes 0 0 ≡ uintOr 0 (valueIn captures 0 (fieldsAt s at))
+  unfolding sizeAs typeAt coreAt captures
+  capture-start = capture-size 0 (omega arith)
+
+  capture-header : getD sizes 2 0 ≡ uintOr 0 (valueIn captures 2 (fieldsAt s at))
+  unfolding sizeAs typeAt coreAt captures
+  capture-header = capture-size 2 (omega arith)
+
+  pub capture-moment : getD sizes 4 0 ≡ given 0 (λ v. length (v .part)) (noted s (getD places 4 0))
+  unfolding sizeAs typeAt coreAt captures
+  capture-moment = capture-size 4 (omega arith) ∙ ap (given 0 (λ v. length (v .part))) (sym (capture-place 4 (omega arith)))
 
   capture-missing : missing captures (fieldsAt s at) ≡ isAbsent (noted s (getD places 0 0))
   unfolding missingFrom captures
   capture-missing = or-false (isAbsent (valueIn captures 0 (fieldsAt s at))) ∙ ap isAbsent (sym (capture-place 0 (omega arith)))
 
-  pub capture-is : (walk others low start header close : ℕ) → walk ≡ walkLow captures (fieldsAt s at)
+  pub capture-is : (walk others low close : ℕ) → walk ≡ walkLow captures (fieldsAt s at)
       → others ≡ lowest (rule 6 (isAbsent (noted s (getD places 0 0))) ∷ rule 11 (breaksRule (noted s (getD places 4 0))) ∷ []) → low ≡ least walk others
-      → start ≡ uintOr 0 (noted s (getD places 0 0)) → header ≡ uintOr 0 (noted s (getD places 2 0)) → close ≡ closeAt s at
-      → record { low = low; entry = record { start = start; header = header }; close = close } ≡ captureAt s at
+      → close ≡ closeAt s at
+      → record { low = low; entry = record { start = getD sizes 0 0; header = getD sizes 2 0 }; close = close } ≡ captureAt s at
   unfolding captureAt badDatetime rulesOf Ascending
-  capture-is walk others low start header close ew eo el es eh ec =
+  capture-is walk others low close ew eo el ec =
       let e11 = ap breaksRule (capture-place 4 (omega arith)) in
       let e1 : low ≡ lowest (captureRules (fieldsAt s at)) = object-low captures (fieldsAt s at) _ (11 ∷ []) (badDatetime (fieldsAt s at) ∷ []) (omega arith, tt) capture-missing walk others low ew (rw (← e11) eo) el in
-      let e2 = es ∙ ap (uintOr 0) (capture-place 0 (omega arith)) in
-      let e3 = eh ∙ ap (uintOr 0) (capture-place 2 (omega arith)) in
-      rw (← e1, ← e2, ← e3, ← ec)
+      rw (← e1, ← capture-start, ← capture-header, ← ec)
 
 -- ---- an annotation
-module _ (s : List ℕ) (at : ℕ) (places : List ℕ) (n : Noted s annotations (fieldsAt s at) places) where
+module _ (s : List ℕ) (at : ℕ) (places sizes : List ℕ) (n : Noted s annotations (fieldsAt s at) places) (m : Measured annotations (fieldsAt s at) sizes) where
   annotation-place : (i : ℕ) → i < 10 → noted s (getD places i 0) ≡ valueIn annotations i (fieldsAt s at)
   unfolding Noted annotations
   annotation-place i h = sym (n i h)
+
+  annotation-size : (i : ℕ) → i < 10 → getD sizes i 0 ≡ sizeOf (typeAt annotations i) (noted s (getD places i 0))
+  unfolding Measured annotations
+  annotation-size i h = m i h ∙ ap (sizeOf (typeAt annotations i)) (sym (annotation-place i h))
+
+  annotation-start : getD sizes 0 0 ≡ uintOr 0 (noted s (getD places 0 0))
+  unfolding sizeAs typeAt coreAt annotations
+  annotation-start = annotation-size 0 (omega arith)
+
+  annotation-count : getD sizes 1 0 ≡ uintOr 0 (noted s (getD places 1 0))
+  unfolding sizeAs typeAt coreAt annotations
+  annotation-count = annotation-size 1 (omega arith)
+
+  annotation-label : getD sizes 3 0 ≡ given 0 (λ v. length (v .part)) (noted s (getD places 3 0))
+  unfolding sizeAs typeAt coreAt annotations
+  annotation-label = annotation-size 3 (omega arith)
 
   annotation-missing : missing annotations (fieldsAt s at) ≡ isAbsent (noted s (getD places 0 0))
   unfolding missingFrom annotations
   annotation-missing = or-false (isAbsent (valueIn annotations 0 (fieldsAt s at))) ∙ ap isAbsent (sym (annotation-place 0 (omega arith)))
 
-  pub annotation-is : (walk others low start : ℕ) (count : Count) (label labellen close : ℕ) → walk ≡ walkLow annotations (fieldsAt s at)
-      → others ≡ cond (eqb (getD places 0 0) 0) 6 0 → low ≡ least walk others → start ≡ uintOr 0 (noted s (getD places 0 0))
-      → count ≡ countOf (noted s (getD places 1 0)) → label ≡ textPlace (noted s (getD places 3 0)) → labellen ≡ textLength (noted s (getD places 3 0)) → close ≡ closeAt s at
-      → record { low = low; entry = record { start = start; count = count; label = label; labellen = labellen }; close = close } ≡ annotationAt s at
+  pub annotation-is : (walk others low : ℕ) (count : Count) (label labellen close : ℕ) → walk ≡ walkLow annotations (fieldsAt s at)
+      → others ≡ cond (eqb (getD places 0 0) 0) 6 0 → low ≡ least walk others → count ≡ countBy (getD places 1 0) (getD sizes 1 0)
+      → label ≡ textPlaceBy (getD places 3 0) → labellen ≡ textLengthBy (getD places 3 0) (getD sizes 3 0) → close ≡ closeAt s at
+      → record { low = low; entry = record { start = getD sizes 0 0; count = count; label = label; labellen = labellen }; close = close } ≡ annotationAt s at
   unfolding annotationAt rulesOf Ascending
-  annotation-is walk others low start count label labellen close ew eo el es eu ep en ec =
+  annotation-is walk others low count label labellen close ew eo el eu ep en ec =
       let e1 : low ≡ lowest (annotationRules (fieldsAt s at)) =
       object-low annotations (fieldsAt s at) _ [] [] tt annotation-missing walk others low ew (eo ∙ absent-is s (getD places 0 0)) el in
-      let e2 = es ∙ ap (uintOr 0) (annotation-place 0 (omega arith)) in
-      let e3 = eu ∙ ap countOf (annotation-place 1 (omega arith)) in
-      let e4 = ep ∙ ap textPlace (annotation-place 3 (omega arith)) in
-      let e5 = en ∙ ap textLength (annotation-place 3 (omega arith)) in
+      let e2 = annotation-start ∙ ap (uintOr 0) (annotation-place 0 (omega arith)) in
+      let e3 = eu ∙ count-by s (getD places 1 0) (getD sizes 1 0) annotation-count ∙ ap countOf (annotation-place 1 (omega arith)) in
+      let e4 = ep ∙ text-place-by s (getD places 3 0) ∙ ap textPlace (annotation-place 3 (omega arith)) in
+      let e5 = en ∙ text-length-by s (getD places 3 0) (getD sizes 3 0) annotation-label ∙ ap textLength (annotation-place 3 (omega arith)) in
       rw (← e1, ← e2, ← e3, ← e4, ← e5, ← ec)

@@ -5,7 +5,7 @@ use mathlib.Core.List.{List, [], _∷_}
 use mathlib.Core.Option.{Option, none, some}
 use Prim.Native.Nat.{ℕ, zero, suc, _≤_, _<_, _+_, _-_}
 use native.Mathlib.Omega.{arith}
-use lib.ListN.{length}
+use lib.ListN.{length, take, drop}
 use lib.Dec.{eqb}
 use borrow.Author.Tests.{eq-eqb, ne-eqb}
 use Rattle.refusals.specs.Refusals.{rule, lowest}
@@ -24,7 +24,8 @@ use Rattle.layout.specs.declared.Count.the-variants as C
 use Rattle.objects.specs.Fields.{Value, given, isAbsent, numberOf, uintOr}
 use Rattle.objects.specs.Places.{noted}
 use Rattle.objects.specs.Capture.{isNone, breaksRule}
-use Rattle.objects.specs.Annotation.{countOf, textPlace, textLength}
+use Rattle.objects.specs.Annotation.{countOf, textPlace, textLength, countBy, textPlaceBy, textLengthBy}
+use Rattle.fields.proofs.ValueLaws.{part-rest}
 
 module _ (s : List ℕ) (p : ℕ) where
   -- ---- no value
@@ -51,9 +52,6 @@ module _ (s : List ℕ) (p : ℕ) where
     pub present : false ≡ isAbsent (noted s p)
     present = sym (ap isAbsent something)
 
-    pub count-given : (n : ℕ) → n ≡ uintOr 0 (noted s p) → C.Given n ≡ countOf (noted s p)
-    count-given n e = ap C.Given (e ∙ ap (uintOr 0) something) ∙ sym (ap countOf something)
-
     module _ (part : List ℕ) (e : part ≡ partOf s p (skipValue s p)) where
       pub given-some : {A : Type 0} (z : A) (g : Value → A) → g (record { at = p; part = part }) ≡ given z g (noted s p)
       given-some z g = ap (λ (x : List ℕ). g (record { at = p; part = x })) e ∙ sym (ap (given z g) something)
@@ -61,22 +59,53 @@ module _ (s : List ℕ) (p : ℕ) where
       pub uint-is : (z : ℕ) (u : Uint) → u ≡ uintOf part → numberOf u ≡ uintOr z (noted s p)
       uint-is z u q = ap numberOf q ∙ given-some z (λ v. numberOf (uintOf (v .part)))
 
-      pub text-place : p + 1 ≡ textPlace (noted s p)
-      text-place = given-some 0 (λ v. v .at + 1)
-
-      pub text-length : (n : ℕ) → n ≡ length part - 2 → n ≡ textLength (noted s p)
-      text-length n q = q ∙ given-some 0 (λ v. length (v .part) - 2)
-
       pub breaks-is : (d : Datetime) → datetimeSays part d ≡ datetimeOf (valueText part) → isNone (datetimeSays part d) ≡ breaksRule (noted s p)
       breaks-is d q = ap isNone q ∙ given-some false (λ v. isNone (datetimeOf (valueText (v .part))))
 
+-- ---- by the size
+pub count-by : (s : List ℕ) (p n : ℕ) → n ≡ uintOr 0 (noted s p) → countBy p n ≡ countOf (noted s p)
+unfolding noted
+count-by s zero n e = refl
+count-by s (suc p) n e = rw (ne-eqb (suc p) 0 (λ z. omega arith)) (ap C.Given e)
+
+pub text-place-by : (s : List ℕ) (p : ℕ) → textPlaceBy p ≡ textPlace (noted s p)
+unfolding noted
+text-place-by s zero = refl
+text-place-by s (suc p) = rw (ne-eqb (suc p) 0 (λ z. omega arith))
+
+pub text-length-by : (s : List ℕ) (p n : ℕ) → n ≡ given 0 (λ v. length (v .part)) (noted s p) → textLengthBy p n ≡ textLength (noted s p)
+unfolding noted
+text-length-by s zero n e = refl
+text-length-by s (suc p) n e = rw (ne-eqb (suc p) 0 (λ z. omega arith)) (ap (λ (x : ℕ). x - 2) e)
+
+-- a part is as long as it is
+take-again : (k : ℕ) (l : List ℕ) → take (length (take k l)) l ≡ take k l
+take-again zero l = refl
+take-again (suc k) [] = refl
+take-again (suc k) (x ∷ l) = ap (λ (t : List ℕ). x ∷ t) (take-again k l)
+
+module _ (s : List ℕ) (p n : ℕ) where
+  pub part-past : length s ≤ p → partOf s p p ≡ partOf s p (p + n)
+  part-past h = sym (part-rest s p p h) ∙ part-rest s p (p + n) (omega arith)
+
+  pub part-ends : length s - p < n → p < length s → partOf s p (length s) ≡ partOf s p (p + n)
+  part-ends h l = part-rest s p (p + n) (omega arith)
+
+  pub part-sized : (p ≡ 0 → ⊥) → n ≡ given 0 (λ v. length (v .part)) (noted s p) → partOf s p (p + n) ≡ partOf s p (skipValue s p)
+  part-sized f e =
+      let q : p + n - p ≡ n = omega arith in
+      let r : n ≡ length (partOf s p (skipValue s p)) = e ∙ ap (given 0 (λ v. length (v .part))) (something s p f) in
+      rw (q, r) (take-again (skipValue s p - p) (drop p s))
+
+-- ---- a place told from none
+module _ {A : Type 0} (p : ℕ) (x y : A) where
+  pub unplaced : p ≡ 0 → x ≡ cond (eqb p 0) x y
+  unplaced e = rw (eq-eqb p 0 e)
+
+  pub placed : (p ≡ 0 → ⊥) → y ≡ cond (eqb p 0) x y
+  placed f = rw (ne-eqb p 0 f)
+
 -- ---- 6
-pub low-bare : (p : ℕ) → p ≡ 0 → _≡_ {A = ℕ} 6 (cond (eqb p 0) 6 0)
-low-bare p e = rw (eq-eqb p 0 e)
-
-pub low-placed : (p : ℕ) → (p ≡ 0 → ⊥) → _≡_ {A = ℕ} 0 (cond (eqb p 0) 6 0)
-low-placed p f = rw (ne-eqb p 0 f)
-
 pub absent-is : (s : List ℕ) (p : ℕ) → cond (eqb p 0) 6 0 ≡ lowest (rule 6 (isAbsent (noted s p)) ∷ [])
 unfolding lowest noted
 absent-is s zero = refl

@@ -32,14 +32,16 @@ use Rattle.texts.specs.Lookup.{place}
 use Rattle.texts.specs.Form.{formOk, formOf, partAfter}
 use Rattle.texts.proofs.LookupLaws.{place-most}
 use Rattle.fields.specs.declared.Object.{Object}
+use Rattle.fields.specs.declared.Object.the-variants as O
 use Rattle.fields.specs.declared.FieldType.{FieldType}
 use Rattle.fields.specs.declared.FieldType.the-variants as T
-use Rattle.fields.specs.Values.{partOf, hasType}
-use Rattle.fields.specs.Names.{Core, coreOf, coreName, typeAt}
+use Rattle.fields.specs.declared.Uint.{Uint}
+use Rattle.fields.specs.Values.{partOf, hasType, uintOf, isValue}
+use Rattle.fields.specs.Names.{Core, globals, captures, annotations, coreOf, coreName, typeAt}
 use Rattle.fields.specs.Extensions.{memberName, memberValue}
 use Rattle.fields.proofs.NameLaws.{type-over}
-use Rattle.objects.specs.Fields.{Value, Field, fieldOf, fieldsAt, closeAt, numberIn, valueFrom, valueIn, misnamed, mistyped}
-use Rattle.objects.specs.Places.{noted, Noted, Within, Clear, walkLow}
+use Rattle.objects.specs.Fields.{Value, Field, fieldOf, fieldsAt, closeAt, numberIn, numberOf, valueFrom, valueIn, misnamed, mistyped}
+use Rattle.objects.specs.Places.{noted, Noted, sizeAs, sizeOf, Measured, Within, Clear, walkLow}
 use Rattle.fields.proofs.NameLaws.{known-formed}
 use Rattle.objects.proofs.NameLaws.{formed, unformed}
 
@@ -72,6 +74,12 @@ module _ (cs : List Core) (f : Field) where
   unfolding misnamed lowest
   low-misnamed p = rw p
 
+  pub low-known : formOk (f .name) ≡ true → cond (hasType (typeAt cs (numberIn cs f)) (f .value .part)) 0 7 ≡ walkLow cs (f ∷ [])
+  low-known p = go (hasType (typeAt cs (numberIn cs f)) (f .value .part)) refl where
+    go : (t : Bool) → hasType (typeAt cs (numberIn cs f)) (f .value .part) ≡ t → cond t 0 7 ≡ walkLow cs (f ∷ [])
+    go true q = low-good p q
+    go false q = low-mistyped p q
+
   -- "all others are ignored"
   pub low-unknown : formOk (f .name) ≡ true → length cs ≤ numberIn cs f → 0 ≡ walkLow cs (f ∷ [])
   unfolding hasType
@@ -90,25 +98,48 @@ module _ (kind : Object) (s : List ℕ) (m : Member) (i known : ℕ) (ei : i ≡
         low-unknown (coreOf kind) (fieldOf s m)
         (formed (memberName s m) (stream raw at k) (ap (partAfter raw) (sym e) ∙ ef ∙ ap (λ (x : List ℕ). formOf (nameText x)) er)) (omega arith)
 
-  module _ (h : i < known) (wanted : FieldType) (ew : wanted ≡ typeAt (coreOf kind) i) (value : List ℕ) (ev : value ≡ partOf s (m .value) (m .end))
-      (t : Bool) (et : t ≡ hasType wanted value) where
+  module _ (h : i < known) (wanted : FieldType) (ew : wanted ≡ typeAt (coreOf kind) i) (value : List ℕ) (ev : value ≡ partOf s (m .value) (m .end)) where
     name : formOk (memberName s m) ≡ true
     name = known-formed kind (memberName s m) (omega arith)
 
-    type : t ≡ hasType (typeAt (coreOf kind) (numberIn (coreOf kind) (fieldOf s m))) (memberValue s m)
-    type = et ∙ ap (hasType wanted) ev ∙ ap (λ (x : FieldType). hasType x (memberValue s m)) (ew ∙ ap (typeAt (coreOf kind)) ei)
+    pub member-known : (l : ℕ) → l ≡ cond (hasType wanted value) 0 7 → l ≡ walkLow (coreOf kind) (fieldOf s m ∷ [])
+    member-known l el =
+        el ∙ ap (λ (x : List ℕ). cond (hasType wanted x) 0 7) ev
+        ∙ ap (λ (x : FieldType). cond (hasType x (memberValue s m)) 0 7) (ew ∙ ap (typeAt (coreOf kind)) ei)
+        ∙ low-known (coreOf kind) (fieldOf s m) name
 
-    pub member-typed : t ≡ true → 0 ≡ walkLow (coreOf kind) (fieldOf s m ∷ [])
-    member-typed e = low-good (coreOf kind) (fieldOf s m) name (sym type ∙ e)
+    pub member-size : (n : ℕ) → n ≡ sizeAs wanted value → n ≡ sizeAs (typeAt (coreOf kind) i) (memberValue s m)
+    member-size n en = en ∙ ap (sizeAs wanted) ev ∙ ap (λ (x : FieldType). sizeAs x (memberValue s m)) ew
 
-    pub member-mistyped : t ≡ false → 7 ≡ walkLow (coreOf kind) (fieldOf s m ∷ [])
-    member-mistyped e = low-mistyped (coreOf kind) (fieldOf s m) name (sym type ∙ e)
+-- ---- a part of a wanted type
+module _ (t : FieldType) (p : List ℕ) where
+  module _ (b : Bool) (e : b ≡ hasType t p) where
+    pub part-typed : b ≡ true → _≡_ {A = ℕ} 0 (cond (hasType t p) 0 7)
+    part-typed h = ap (λ (x : Bool). cond x 0 7) (sym h ∙ e)
+
+    pub part-mistyped : b ≡ false → _≡_ {A = ℕ} 7 (cond (hasType t p) 0 7)
+    part-mistyped h = ap (λ (x : Bool). cond x 0 7) (sym h ∙ e)
+
+  module _ (et : t ≡ T.Uint) (u : Uint) (eu : u ≡ uintOf p) where
+    pub uint-low : _≡_ {A = ℕ} (cond (isValue u) 0 7) (cond (hasType t p) 0 7)
+    unfolding hasType
+    uint-low = ap (λ (x : Uint). cond (isValue x) 0 7) eu ∙ ap (λ (x : FieldType). cond (hasType x p) 0 7) (sym et)
+
+    pub uint-size : numberOf u ≡ sizeAs t p
+    unfolding sizeAs
+    uint-size = ap numberOf eu ∙ ap (λ (x : FieldType). sizeAs x p) (sym et)
 
 -- ---- the members from a place on
 abbrev pub fieldsFrom : List ℕ → ℕ → List Field
 fieldsFrom s i = map (fieldOf s) (membersFrom s i)
 
 -- ---- places
+pub core-most : (kind : Object) → length (coreOf kind) ≤ 20
+unfolding globals captures annotations
+core-most O.Global = omega arith
+core-most O.Capture = omega arith
+core-most O.Annotation = omega arith
+
 noted-at : (s : List ℕ) (v e : ℕ) → 0 < v → e ≡ skipValue s v → some (record { at = v; part = partOf s v e }) ≡ noted s v
 unfolding noted
 noted-at s zero e h q = absurd (omega arith)
@@ -121,6 +152,20 @@ module _ (s places : List ℕ) (n v e : ℕ) (h : n < length places) (hv : 0 < v
     go : (t : Bool) → eqb n k ≡ t → cond t (some (record { at = v; part = partOf s v e })) (noted s (getD places k 0)) ≡ noted s (getD (set places n v) k 0)
     go true q = noted-at s v e hv he ∙ ap (noted s) (sym (ap (λ (x : ℕ). getD (set places n v) x 0) (sym (eqb-true n k q)) ∙ getD-set-same places n v 0 h))
     go false q = ap (noted s) (sym (getD-set-other places n k v 0 (λ w. eqb-false n k q (sym w))))
+
+-- and its size, of a known field
+module _ (s places : List ℕ) (n v e : ℕ) (h : n < length places) (hv : 0 < v) (he : e ≡ skipValue s v) (cs : List Core) (sizes : List ℕ) (z : ℕ)
+    (hz : n < length sizes) (ez : n < length cs → z ≡ sizeAs (typeAt cs n) (partOf s v e)) where
+  measured-set : (k : ℕ) → k < length cs → getD sizes k 0 ≡ sizeOf (typeAt cs k) (noted s (getD places k 0))
+      → getD (set sizes n z) k 0 ≡ sizeOf (typeAt cs k) (noted s (getD (set places n v) k 0))
+  measured-set k l m = go (eqb n k) refl ∙ ap (sizeOf (typeAt cs k)) (noted-set s places n v e h hv he k) where
+    go : (t : Bool) → eqb n k ≡ t
+        → getD (set sizes n z) k 0 ≡ sizeOf (typeAt cs k) (cond t (some (record { at = v; part = partOf s v e })) (noted s (getD places k 0)))
+    go true q =
+        let r = eqb-true n k q in
+        ap (λ (x : ℕ). getD (set sizes n z) x 0) (sym r) ∙ getD-set-same sizes n z 0 hz ∙ ez (omega arith)
+        ∙ ap (λ (x : ℕ). sizeAs (typeAt cs x) (partOf s v e)) r
+    go false q = getD-set-other sizes n k z 0 (λ w. eqb-false n k q (sym w)) ∙ m
 
 pub within-clear : (s places : List ℕ) → Clear places → Within s places
 unfolding Within Clear
@@ -178,25 +223,30 @@ unfolding closeAt
 close-inside s at h = rw (lt-ltb at (length s) h)
 
 -- ---- the walk stands at a place, with what it has found so far
-pub record Walking (s : List ℕ) (cs : List Core) (start at low : ℕ) (places : List ℕ) : Type 0 where
+pub record Walking (s : List ℕ) (cs : List Core) (start at low : ℕ) (places sizes : List ℕ) : Type 0 where
   pub lows : least low (walkLow cs (fieldsFrom s at)) ≡ walkLow cs (fieldsFrom s start)
   pub close : membersEndFrom s at ≡ membersEndFrom s start
   pub values : (k : ℕ) → k < length cs → valueFrom cs k (noted s (getD places k 0)) (fieldsFrom s at) ≡ valueIn cs k (fieldsFrom s start)
   pub within : Within s places
-  pub size : length places ≡ length cs + 1
+  pub measured : (k : ℕ) → k < length cs → getD sizes k 0 ≡ sizeOf (typeAt cs k) (noted s (getD places k 0))
+  pub slots : length places ≡ length cs + 1
+  pub size-slots : length sizes ≡ length cs + 1
 
 module _ (s : List ℕ) (cs : List Core) where
-  pub walk-begin : (at : ℕ) (places : List ℕ) → Clear places → length places ≡ length cs + 1 → Walking s cs at at 0 places
+  pub walk-begin : (at : ℕ) (places sizes : List ℕ) → Clear places → Clear sizes → length places ≡ length cs + 1 → length sizes ≡ length cs + 1
+      → Walking s cs at at 0 places sizes
   unfolding noted Clear
-  walk-begin at places z n = record {
+  walk-begin at places sizes z y n l = record {
     lows = sym (least-none 0 (walkLow cs (fieldsFrom s at)) refl);
     close = refl;
     values = λ k h. rw (z k);
     within = within-clear s places z;
-    size = n;
+    measured = λ k h. rw (z k, y k);
+    slots = n;
+    size-slots = l;
   }
 
-  module _ (start at low : ℕ) (places : List ℕ) (w : Walking s cs start at low places) where
+  module _ (start at low : ℕ) (places sizes : List ℕ) (w : Walking s cs start at low places sizes) where
     module _ (m : Member) (j : ℕ) (e : memberStep s at ≡ M.Found m j) where
       from : fieldsFrom s at ≡ fieldOf s m ∷ fieldsFrom s j
       from = ap (map (fieldOf s)) (members-found s at m j e)
@@ -205,7 +255,10 @@ module _ (s : List ℕ) (cs : List Core) where
       step-past = member-steps s at m j (ap memberFound e)
 
       slot : numberIn cs (fieldOf s m) < length places
-      slot = omega (arith, place-most coreName cs (fieldOf s m .name), w .size)
+      slot = omega (arith, place-most coreName cs (fieldOf s m .name), w .slots)
+
+      size-slot : numberIn cs (fieldOf s m) < length sizes
+      size-slot = omega (arith, place-most coreName cs (fieldOf s m .name), w .size-slots)
 
       module _ (raw : List ℕ) (n : ℕ) (er : raw ≡ partOf s (m .name) (m .quote)) (en : n ≡ place coreName cs (nameText raw)) where
         pub number-is : n ≡ numberIn cs (fieldOf s m)
@@ -214,9 +267,13 @@ module _ (s : List ℕ) (cs : List Core) where
         pub number-inside : n < length places
         number-inside = rw number-is slot
 
-      pub walk-on : (n l : ℕ) → n ≡ numberIn cs (fieldOf s m) → l ≡ least low (walkLow cs (fieldOf s m ∷ [])) → Walking s cs start j l (set places n (m .value))
+        pub size-inside : n < length sizes
+        size-inside = rw number-is size-slot
+
+      pub walk-on : (n l z : ℕ) → n ≡ numberIn cs (fieldOf s m) → l ≡ least low (walkLow cs (fieldOf s m ∷ []))
+          → (n < length cs → z ≡ sizeAs (typeAt cs n) (memberValue s m)) → Walking s cs start j l (set places n (m .value)) (set sizes n z)
       unfolding valueFrom
-      walk-on n l en el = record {
+      walk-on n l z en el ez = record {
         lows =
             ap (λ (x : ℕ). least x (walkLow cs (fieldsFrom s j))) el
             ∙ least-assoc low (walkLow cs (fieldOf s m ∷ [])) (walkLow cs (fieldsFrom s j))
@@ -232,7 +289,12 @@ module _ (s : List ℕ) (cs : List Core) where
             ∙ ap (valueFrom cs k (noted s (getD places k 0))) (sym from)
             ∙ w .values k h;
         within = within-set s places n (m .value) (w .within) (member-value s at m j e .within);
-        size = length-set places n (m .value) ∙ w .size;
+        measured =
+            λ k h.
+            measured-set s places n (m .value) (m .end) (rw en slot) (omega (arith, member-places s at m j e .value)) (member-value s at m j e .end)
+            cs sizes z (rw en size-slot) ez k h (w .measured k h);
+        slots = length-set places n (m .value) ∙ w .slots;
+        size-slots = length-set sizes n z ∙ w .size-slots;
       }
 
     module _ (e : memberStep s at ≡ M.End) where
@@ -253,6 +315,10 @@ module _ (s : List ℕ) (cs : List Core) where
         walk-noted k l =
             ap (λ (i : ℕ). valueIn cs k (fieldsFrom s i)) (sym es) ∙ sym (w .values k l) ∙ ap (valueFrom cs k (noted s (getD places k 0))) over
 
+        pub walk-measured : Measured cs (fieldsAt s object) sizes
+        unfolding Measured Noted
+        walk-measured k l = w .measured k l ∙ ap (sizeOf (typeAt cs k)) (sym (walk-noted k l))
+
 -- ---- an object past the text's end
 module _ (s : List ℕ) (at : ℕ) (h : length s ≤ at) where
   pub close-past : at ≡ closeAt s at
@@ -270,3 +336,7 @@ module _ (s : List ℕ) (at : ℕ) (h : length s ≤ at) where
   pub noted-past : (cs : List Core) (places : List ℕ) → Clear places → Noted s cs (fieldsAt s at) places
   unfolding Noted Clear noted valueFrom
   noted-past cs places z k l = rw (none-past, z k)
+
+  pub measured-past : (cs : List Core) (sizes : List ℕ) → Clear sizes → Measured cs (fieldsAt s at) sizes
+  unfolding Measured Clear valueFrom
+  measured-past cs sizes z k l = rw (none-past, z k)

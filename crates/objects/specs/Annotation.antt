@@ -1,9 +1,10 @@
 -- Document 01, "Fields": an annotation, and refusals 5, 6 and 7 as it gives cause for them. a is its members.
-use mathlib.Core.Bool.{Bool}
+use mathlib.Core.Bool.{Bool, cond}
 use mathlib.Core.List.{List, [], _∷_}
 use mathlib.Core.Option.{Option, none, some}
 use Prim.Native.Nat.{ℕ, _+_, _-_}
 use lib.ListN.{length}
+use lib.Dec.{eqb}
 use Rattle.refusals.specs.Refusals.{Rule, rule, lowest}
 use Rattle.fields.specs.declared.AnnotationField.{AnnotationField}
 use Rattle.fields.specs.declared.AnnotationField.the-variants as A
@@ -42,3 +43,13 @@ annotationIn a = record {
 -- the object at a place: the lowest number that it gives cause for, what it says, and where its closing brace stands
 unfoldable pub annotationAt : List ℕ → ℕ → AnnotationFound
 annotationAt s at = record { low = lowest (annotationRules (fieldsAt s at)); entry = annotationIn (fieldsAt s at); close = closeAt s at }
+
+-- ---- for the code: the same by a field's place and its value's size
+abbrev pub countBy : ℕ → ℕ → Count
+countBy place n = cond (eqb place 0) C.Absent (C.Given n)
+
+abbrev pub textPlaceBy : ℕ → ℕ
+textPlaceBy place = cond (eqb place 0) 0 (place + 1)
+
+abbrev pub textLengthBy : ℕ → ℕ → ℕ
+textLengthBy place n = cond (eqb place 0) 0 (n - 2)

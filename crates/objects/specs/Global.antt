@@ -6,6 +6,7 @@ use Prim.Native.Nat.{ℕ}
 use lib.ListN.{length, getD}
 use Rattle.limits.specs.Limits.{channels}
 use Rattle.tokens.specs.Text.{within}
+use Rattle.tokens.specs.Lists.{any}
 use Rattle.refusals.specs.Refusals.{Rule, rule, lowest}
 use Rattle.members.specs.Members.{elementsAt}
 use Rattle.datatypes.specs.Datatypes.{datatypes, listed}
@@ -67,10 +68,6 @@ abbrev pub isNeeded : Extension → Bool
 isNeeded E.Needed = true
 isNeeded E.Malformed = false
 isNeeded E.Ignored = false
-
-unfoldable pub any : {A : Type 0} → (A → Bool) → List A → Bool
-any f [] = false
-any f (x ∷ l) = f x || any f l
 
 -- 12: "an extension entry is malformed"
 unfoldable pub badExtension : List ℕ → List Field → Bool

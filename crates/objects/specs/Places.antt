@@ -1,5 +1,5 @@
--- For the code: the values of an object's known fields, kept by their places in the text. The value at a place ends where its
--- brackets and quotes say, so that its place tells the value.
+-- For the code: the values of an object's known fields, kept by their places in the text and their sizes. The value at a place
+-- ends where its brackets and quotes say, so that its place tells the value.
 use mathlib.Core.Path.{_≡_}
 use mathlib.Core.List.{List, [], _∷_}
 use mathlib.Core.Option.{Option, none, some}
@@ -7,9 +7,11 @@ use Prim.Native.Nat.{ℕ, zero, suc, _≤_, _<_}
 use lib.ListN.{length, getD}
 use Rattle.refusals.specs.Refusals.{rule, lowest}
 use Rattle.grammar.specs.Skip.{skipValue}
-use Rattle.fields.specs.Values.{partOf}
-use Rattle.fields.specs.Names.{Core}
-use Rattle.objects.specs.Fields.{Value, Field, valueIn, misnamed, mistyped}
+use Rattle.fields.specs.declared.FieldType.{FieldType}
+use Rattle.fields.specs.declared.FieldType.the-variants as T
+use Rattle.fields.specs.Values.{partOf, uintOf}
+use Rattle.fields.specs.Names.{Core, typeAt}
+use Rattle.objects.specs.Fields.{Value, Field, valueIn, given, numberOf, misnamed, mistyped}
 
 -- the value at a place; none at 0, where no member's value stands
 unfoldable pub noted : List ℕ → ℕ → Option Value
@@ -20,13 +22,31 @@ noted s (suc p) = some (record { at = suc p; part = partOf s (suc p) (skipValue 
 unfoldable pub Noted : List ℕ → List Core → List Field → List ℕ → Type 0
 Noted s cs fs places = (i : ℕ) → i < length cs → valueIn cs i fs ≡ noted s (getD places i 0)
 
+-- the size of a value of a type: the number of a uint, of any other how many bytes its part has
+unfoldable pub sizeAs : FieldType → List ℕ → ℕ
+sizeAs T.Uint p = numberOf (uintOf p)
+sizeAs T.Text p = length p
+sizeAs T.Double p = length p
+sizeAs T.Boolean p = length p
+sizeAs T.Object p = length p
+sizeAs T.Array p = length p
+sizeAs T.Any p = length p
+
+-- what stands for field i's size: 0 without a value
+abbrev pub sizeOf : FieldType → Option Value → ℕ
+sizeOf t v = given 0 (λ v. sizeAs t (v .part)) v
+
+-- size i is that of field i's value
+unfoldable pub Measured : List Core → List Field → List ℕ → Type 0
+Measured cs fs sizes = (i : ℕ) → i < length cs → getD sizes i 0 ≡ sizeOf (typeAt cs i) (valueIn cs i fs)
+
 -- no place is past the text's end
 unfoldable pub Within : List ℕ → List ℕ → Type 0
 Within s places = (i : ℕ) → getD places i 0 ≤ length s
 
--- no place is noted
+-- no place or size is noted
 unfoldable pub Clear : List ℕ → Type 0
-Clear places = (i : ℕ) → getD places i 0 ≡ 0
+Clear noted = (i : ℕ) → getD noted i 0 ≡ 0
 
 -- what a walk over the members tells of 5 and 7
 abbrev pub walkLow : List Core → List Field → ℕ

@@ -1,15 +1,11 @@
 // An annotation.
 ghost use mathlib.Core.Path.{_≡_};
 ghost use mathlib.Core.Bool.{cond};
-ghost use Prim.Native.Nat.{_≤_};
-ghost use lib.ListN.{length};
+ghost use Prim.Native.Nat.{_<_};
 ghost use lib.Dec.{eqb};
 ghost use Rattle.refusals.specs.Refusals.{least};
-ghost use Rattle.objects.specs.Places.{noted};
-ghost use Rattle.objects.specs.Annotation.{countOf, textPlace, textLength, annotationAt};
+ghost use Rattle.objects.specs.Annotation.{annotationAt, countBy, textPlaceBy, textLengthBy};
 use crate::AnnotationFound;
-use crate::value::uint_or;
-use crate::value::value_at;
 use crate::walk::find_fields;
 use fields::Object;
 use layout::AnnotationEntry;
@@ -22,33 +18,32 @@ struct RawText {
     len: u64,
 }
 
-fn raw_text(s: &[u8], place: usize) -> RawText
-    requires { ⌜ place ≤ length (now s) ⌝ }
-    ensures { λ r. ⌜ r .at ≡ textPlace (noted (now (s .entry)) place) ⌝ }
-    ensures { λ r. ⌜ r .len ≡ textLength (noted (now (s .entry)) place) ⌝ }
+// The text at a place; n is how many bytes it has with its quotes.
+fn raw_text(place: usize, n: u64) -> RawText
+    requires { ⌜ place < 18446744073709551615 ⌝ }
+    ensures { λ r. ⌜ r .at ≡ textPlaceBy place ⌝ }
+    ensures { λ r. ⌜ r .len ≡ textLengthBy place n ⌝ }
 {
     if place == 0 {
         return RawText { at: 0, len: 0 };
     }
-    let part = value_at(s, place);
-    let n = part.len();
     let first = (place + 1) as u64;
     if n < 2 {
         return RawText { at: first, len: 0 };
     }
     RawText {
         at: first,
-        len: (n - 2) as u64,
+        len: n - 2,
     }
 }
 
-fn count_at(s: &[u8], place: usize) -> Count
-    ensures { λ r. ⌜ r ≡ countOf (noted (now (s .entry)) place) ⌝ }
+// The count at a place; n is its number.
+fn count_at(place: usize, n: u64) -> Count
+    ensures { λ r. ⌜ r ≡ countBy place n ⌝ }
 {
     if place == 0 {
         return Count::Absent;
     }
-    let n = uint_or(0, s, place);
     Count::Given(n)
 }
 
@@ -67,17 +62,15 @@ pub fn read_annotation(s: &[u8], at: usize) -> AnnotationFound
     ensures { λ r. ⌜ r ≡ annotationAt (now (s .entry)) at ⌝ }
 {
     let mut places = [0usize; 11];
-    let w = find_fields(Object::Annotation, s, at, &mut places);
-    let start = places[0];
-    let number = places[1];
-    let text = places[3];
-    let low = place_low(start);
-    let count = count_at(s, number);
-    let label = raw_text(s, text);
+    let mut sizes = [0u64; 11];
+    let w = find_fields(Object::Annotation, s, at, &mut places, &mut sizes);
+    let low = place_low(places[0]);
+    let count = count_at(places[1], sizes[1]);
+    let label = raw_text(places[3], sizes[3]);
     AnnotationFound {
         low: least(w.low, low),
         entry: AnnotationEntry {
-            start: uint_or(0, s, start),
+            start: sizes[0],
             count: count,
             label: label.at,
             labellen: label.len,

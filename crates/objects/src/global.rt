@@ -141,7 +141,8 @@ pub fn read_global(s: &[u8], at: usize) -> GlobalFound
     ensures { λ r. ⌜ r ≡ globalAt (now (s .entry)) at ⌝ }
 {
     let mut places = [0usize; 21];
-    let w = find_fields(Object::Global, s, at, &mut places);
+    let mut sizes = [0u64; 21];
+    let w = find_fields(Object::Global, s, at, &mut places, &mut sizes);
     let low = places_low(s, &places);
     GlobalFound {
         low: least(w.low, low),

@@ -1,5 +1,6 @@
 // What the value at a noted place says. The place 0 stands for no value.
 ghost use mathlib.Core.Path.{_≡_};
+ghost use Prim.Native.Nat.{_+_};
 ghost use Rattle.grammar.specs.Skip.{skipValue};
 ghost use Rattle.fields.specs.Values.{partOf};
 ghost use Rattle.objects.specs.Fields.{uintOr};
@@ -15,6 +16,19 @@ pub(crate) fn value_at(s: &[u8], place: usize) -> &[u8]
 {
     let end = skip_value(s, place);
     part_of(s, place, end)
+}
+
+// The part of n bytes at a place, as far as the text goes.
+pub(crate) fn sized_part(s: &[u8], place: usize, n: u64) -> &[u8]
+    ensures { λ r. ⌜ now r ≡ partOf (now (s .entry)) place (place + n) ⌝ }
+{
+    if s.len() <= place {
+        return part_of(s, place, place);
+    }
+    if ((s.len() - place) as u64) < n {
+        return part_of(s, place, s.len());
+    }
+    part_of(s, place, place + n as usize)
 }
 
 // The number of a uint, or z without a value.

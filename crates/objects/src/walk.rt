@@ -1,16 +1,22 @@
 // One walk over the members of a global object, a capture or an annotation.
 ghost use mathlib.Core.Path.{_≡_};
+ghost use mathlib.Core.Bool.{cond};
 ghost use mathlib.Core.List.{List, [], _∷_};
-ghost use Prim.Native.Nat.{_+_};
+ghost use Prim.Native.Nat.{_<_, _+_};
 ghost use lib.ListN.{length};
-ghost use Rattle.fields.specs.Names.{coreOf};
+ghost use Rattle.fields.specs.Values.{hasType};
+ghost use Rattle.fields.specs.Names.{coreOf, typeAt};
+ghost use Rattle.fields.specs.Extensions.{memberValue};
 ghost use Rattle.objects.specs.Fields.{fieldOf, fieldsAt, closeAt, numberIn};
-ghost use Rattle.objects.specs.Places.{Clear, Noted, Within, walkLow};
+ghost use Rattle.objects.specs.Places.{Clear, Noted, Measured, Within, sizeAs, walkLow};
+use fields::FieldType;
 use fields::Object;
+use fields::Uint;
 use fields::names::field_number;
 use fields::names::field_type;
 use fields::value::has_type;
 use fields::value::part_of;
+use fields::value::uint;
 use members::Member;
 use members::MemberStep;
 use members::next_member;
@@ -25,38 +31,71 @@ pub(crate) struct Walked {
     pub(crate) close: usize,
 }
 
-// What one member, of field i, tells of 5 and 7: a known name has the form, and an unknown one takes any type.
-fn member_low(kind: Object, s: &[u8], m: Member, i: usize, known: usize) -> u64
+// What one member tells of 5 and 7, and its value's size.
+struct Sized {
+    low: u64,
+    size: u64,
+}
+
+// A value of a wanted type: 7 if it is of another.
+fn value_sized(wanted: FieldType, part: &[u8]) -> Sized
+    ensures { λ r. ⌜ r .low ≡ cond (hasType wanted (now (part .entry))) 0 7 ⌝ }
+    ensures { λ r. ⌜ r .size ≡ sizeAs wanted (now (part .entry)) ⌝ }
+{
+    let FieldType::Uint = wanted else {
+        let n = part.len() as u64;
+        if has_type(wanted, part) {
+            return Sized { low: 0, size: n };
+        }
+        return Sized { low: 7, size: n };
+    };
+    let u = uint(part);
+    let Uint::Value(n) = u else {
+        return Sized { low: 7, size: 0 };
+    };
+    Sized { low: 0, size: n }
+}
+
+// A member of field i: a known name has the form, and an unknown one takes any type.
+fn member_sized(kind: Object, s: &[u8], m: Member, i: usize, known: usize) -> Sized
     requires { ⌜ i ≡ numberIn (coreOf kind) (fieldOf (now s) m) ⌝ }
     requires { ⌜ known ≡ length (coreOf kind) ⌝ }
-    ensures { λ r. ⌜ r ≡ walkLow (coreOf kind) (fieldOf (now (s .entry)) m ∷ []) ⌝ }
+    ensures { λ r. ⌜ r .low ≡ walkLow (coreOf kind) (fieldOf (now (s .entry)) m ∷ []) ⌝ }
+    ensures { λ r. ⌜ (i < known → r .size ≡ sizeAs (typeAt (coreOf kind) i) (memberValue (now (s .entry)) m)) ⌝ }
 {
     if known <= i {
         let raw = part_of(s, m.name, m.quote);
         let f = name_form(raw);
         let NameForm::After(_, _) = f else {
-            return 5;
+            return Sized { low: 5, size: 0 };
         };
-        return 0;
+        return Sized { low: 0, size: 0 };
     }
     let wanted = field_type(kind, i);
     let value = part_of(s, m.value, m.end);
-    if has_type(wanted, value) {
-        return 0;
-    }
-    7
+    value_sized(wanted, value)
 }
 
-// The members of the object at a place. Slot i of places becomes the place of field i's value and stays 0 without one; the last
-// slot is that of unknown names.
-pub(crate) fn find_fields(kind: Object, s: &[u8], at: usize, places: &mut [usize]) -> Walked
+// The members of the object at a place. Slot i of places becomes the place of field i's value, slot i of sizes its size, and both
+// stay 0 without one; the last slots are those of unknown names.
+pub(crate) fn find_fields(
+    kind: Object,
+    s: &[u8],
+    at: usize,
+    places: &mut [usize],
+    sizes: &mut [u64],
+) -> Walked
     requires { ⌜ length (now places) ≡ length (coreOf kind) + 1 ⌝ }
+    requires { ⌜ length (now sizes) ≡ length (coreOf kind) + 1 ⌝ }
     requires { ⌜ Clear (now places) ⌝ }
+    requires { ⌜ Clear (now sizes) ⌝ }
     ensures { λ r. ⌜ r .low ≡ walkLow (coreOf kind) (fieldsAt (now (s .entry)) at) ⌝ }
     ensures { λ r. ⌜ r .close ≡ closeAt (now (s .entry)) at ⌝ }
     ensures { λ r. ⌜ Noted (now (s .entry)) (coreOf kind) (fieldsAt (now (s .entry)) at) (now (places .exit)) ⌝ }
+    ensures { λ r. ⌜ Measured (coreOf kind) (fieldsAt (now (s .entry)) at) (now (sizes .exit)) ⌝ }
     ensures { λ r. ⌜ Within (now (s .entry)) (now (places .exit)) ⌝ }
     ensures { λ r. ⌜ length (now (places .exit)) ≡ length (now (places .entry)) ⌝ }
+    ensures { λ r. ⌜ length (now (sizes .exit)) ≡ length (now (sizes .entry)) ⌝ }
 {
     let known = places.len() - 1;
     if s.len() <= at {
@@ -72,9 +111,10 @@ pub(crate) fn find_fields(kind: Object, s: &[u8], at: usize, places: &mut [usize
         };
         let raw = part_of(s, m.name, m.quote);
         let i = field_number(kind, raw);
-        let l = member_low(kind, s, m, i, known);
-        low = least(low, l);
+        let l = member_sized(kind, s, m, i, known);
+        low = least(low, l.low);
         places[i] = m.value;
+        sizes[i] = l.size;
         j = next;
     }
 }

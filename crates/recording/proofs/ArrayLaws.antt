@@ -11,8 +11,9 @@ use lib.Dec.{eqb, ltb, leb}
 use borrow.Author.Tests.{eqb-true, ne-eqb, leb-true, leb-false}
 use Rattle.refusals.specs.Refusals.{Rule, rule, lowest, least}
 use Rattle.refusals.proofs.LeastLaws.{least-none, least-only, least-low, least-high, least-unit, least-assoc}
-use Rattle.tokens.specs.Text.{byte, skipBlanks}
+use Rattle.tokens.specs.Text.{byte, to, skipBlanks}
 use Rattle.tokens.proofs.TextLaws.{inside, cond-elim, blanks-onward}
+use Rattle.grammar.specs.Reading.{valueAt}
 use Rattle.grammar.specs.Skip.{skipValue}
 use Rattle.decode.specs.Decode.{decodedFrom}
 use Rattle.decode.specs.Same.{same}
@@ -25,7 +26,7 @@ use Rattle.members.specs.declared.MemberStep.the-variants as M
 use Rattle.members.specs.Members.{nextItem, memberStep, memberFound, elementStep, membersEndFrom, membersEnd, elementsFrom, elementsAt}
 use Rattle.members.proofs.StepLaws.{member-steps}
 use Rattle.members.proofs.EndLaws.{members-found, members-over, members-end-found, members-end-over, member-places, elements-found, elements-over}
-use Rattle.members.proofs.ReadLaws.{Elements, ElementRead, elements-start, elements-close, element-read, object-read, object-end, value-inside}
+use Rattle.members.proofs.ReadLaws.{Elements, ElementRead, elements-start, elements-close, element-read, element-close, object-read, object-end, value-inside}
 use Rattle.texts.specs.Lookup.{place}
 use Rattle.fields.specs.Values.{partOf}
 use Rattle.fields.specs.Names.{Core, coreName, captures, annotations}
@@ -173,11 +174,12 @@ skip-is s p w rest e = go (ltb p (skipValue s p)) refl where
       let z : _≡_ {A = ℕ} 0 1 = cc in
       absurd (omega arith)
 
-module _ (s : List ℕ) (at : ℕ) (b : byte s at ≡ 0x7B) (r : WasRead 30 s at) where
+module _ (d : ℕ) (s : List ℕ) (at : ℕ) (b : byte s at ≡ 0x7B) (r : WasRead (suc d) s at) where
+  pub close-ends : closeAt s at + 1 ≡ r .0
+  close-ends = omega (arith, object-end d s at (r .0) (r .1) b .1, close-inside s at (inside s at 0x7B (sym b) (omega arith)))
+
   pub close-fits : closeAt s at + 1 ≤ length s
-  close-fits =
-      let e = object-end 29 s at (r .0) (r .1) b in
-      omega (arith, e .1, close-inside s at (inside s at 0x7B (sym b) (omega arith)), value-inside 30 s at (record { at = r .0 }) (r .1))
+  close-fits = omega (arith, close-ends, value-inside (suc d) s at (record { at = r .0 }) (r .1))
 
 ends-object : (s : List ℕ) (at : ℕ) → byte s at ≡ 0x7B → elementEnd s at ≡ membersEnd s at + 1
 unfolding elementEnd
@@ -193,46 +195,50 @@ module _ (k : Kind) (s : List ℕ) (at n : ℕ) (out : List ℕ) where
   unfolding elementLow elementEnd
   element-other b end e = (rw (ne-eqb (byte s at) 0x7B b), (rw (ne-eqb (byte s at) 0x7B b) e, rw (ne-eqb (byte s at) 0x7B b)))
 
--- ---- the walk stands at p, with n elements read
-pub record Walking (k : Kind) (s : List ℕ) (start p n low : ℕ) (m out : List ℕ) : Type 0 where
+-- ---- the walk over the array at a place stands at p, with n elements read
+pub record Walking (k : Kind) (s : List ℕ) (at p n low : ℕ) (m out : List ℕ) : Type 0 where
   pub end : ℕ
+  pub read : valueAt 31 s at ≡ to end
   pub walk : Elements 30 s end p
-  pub counted : n + length (elementsFrom s p) ≡ length (elementsFrom s start)
-  pub lows : least low (arrayLow k s (elementsFrom s p)) ≡ arrayLow k s (elementsFrom s start)
+  pub counted : n + length (elementsFrom s p) ≡ length (elementsAt s at)
+  pub lows : least low (arrayLow k s (elementsFrom s p)) ≡ arrayLow k s (elementsAt s at)
   pub few : n ≤ p
   pub long : length out ≡ length m
-  pub rows : low ≡ 0 → (20 * n ≤ p) × (take (entrySize k * n) out ++ flat (λ e. objectNumbers k s (e .at)) (elementsFrom s p) ≡ flat (λ e. objectNumbers k s (e .at)) (elementsFrom s start))
+  pub rows : low ≡ 0 → (20 * n ≤ p) × (take (entrySize k * n) out ++ flat (λ e. objectNumbers k s (e .at)) (elementsFrom s p) ≡ flat (λ e. objectNumbers k s (e .at)) (elementsAt s at))
 
-module _ (k : Kind) (s : List ℕ) (at start : ℕ) (es : start ≡ skipBlanks s (at + 1)) (m : List ℕ) where
-  pub walk-begin : WasRead 31 s at → byte s at ≡ 0x5B → Walking k s start start 0 0 m m
-  walk-begin r b = record {
+module _ (k : Kind) (s : List ℕ) (at : ℕ) (m : List ℕ) where
+  pub walk-begin : (p : ℕ) → p ≡ skipBlanks s (at + 1) → WasRead 31 s at → byte s at ≡ 0x5B → Walking k s at p 0 0 m m
+  walk-begin p ep r b = rw ep (record {
     end = r .0;
-    walk = rw es (elements-start 30 s at (r .0) (r .1) b);
+    read = r .1;
+    walk = elements-start 30 s at (r .0) (r .1) b;
     counted = omega arith;
-    lows = sym (least-none 0 (arrayLow k s (elementsFrom s start)) refl);
+    lows = sym (least-none 0 (arrayLow k s (elementsAt s at)) refl);
     few = omega arith;
     long = refl;
     rows = λ _. (omega arith, let z : entrySize k * 0 ≡ 0 = omega arith in rw z);
-  }
+  })
 
-  module _ (p n low : ℕ) (out : List ℕ) (x : Walking k s start p n low m out) (b : byte s p ≡ 0x5D) where
+  module _ (p n low : ℕ) (out : List ℕ) (x : Walking k s at p n low m out) (b : byte s p ≡ 0x5D) where
     none-left : elementsFrom s p ≡ []
     none-left = elements-close s p b
 
     pub walk-low : low ≡ arrayLow k s (elementsAt s at)
     unfolding arrayLow
-    walk-low = least-unit low ∙ ap (λ (l : List Element). least low (arrayLow k s l)) (sym none-left) ∙ x .lows ∙ ap (λ (i : ℕ). arrayLow k s (elementsFrom s i)) es
+    walk-low = least-unit low ∙ ap (λ (l : List Element). least low (arrayLow k s l)) (sym none-left) ∙ x .lows
 
     pub walk-kept : low ≡ 0 → Kept k s (elementsAt s at) out n
     unfolding flat
     walk-kept e =
         let f = ap length none-left in (
-          omega (arith, x .counted, ap (λ (i : ℕ). length (elementsFrom s i)) es),
+          omega (arith, x .counted),
           sym (append-nil (take (entrySize k * n) out))
               ∙ ap (λ (l : List Element). take (entrySize k * n) out ++ flat (λ e. objectNumbers k s (e .at)) l) (sym none-left)
-              ∙ x .rows e .1
-              ∙ ap (λ (i : ℕ). flat (λ e. objectNumbers k s (e .at)) (elementsFrom s i)) es,
+              ∙ x .rows e .1,
         )
+
+    pub walk-end : valueAt 31 s at ≡ to (p + 1)
+    walk-end = x .read ∙ ap to (sym (element-close 30 s (x .end) p (x .walk) b))
 
 pub least-zero : (a b : ℕ) → least a b ≡ 0 → (a ≡ 0) × (b ≡ 0)
 least-zero zero b e = (refl, least-none 0 b refl ∙ e)
@@ -247,7 +253,7 @@ entry-room : (k : Kind) (n l m : ℕ) → entrySize k * l ≤ 20 * m → 20 * (n
 entry-room K.Capture n l m h g = omega arith
 entry-room K.Annotation n l m h g = omega arith
 
-module _ (k : Kind) (s : List ℕ) (start p n low : ℕ) (m out : List ℕ) (x : Walking k s start p n low m out) (b : byte s p ≡ 0x5D → ⊥) where
+module _ (k : Kind) (s : List ℕ) (at p n low : ℕ) (m out : List ℕ) (x : Walking k s at p n low m out) (b : byte s p ≡ 0x5D → ⊥) where
   walk-element : ElementRead 30 s (x .end) p (elementEnd s p)
   unfolding elementEnd
   walk-element = go (isObject s p) refl where
@@ -269,7 +275,7 @@ module _ (k : Kind) (s : List ℕ) (start p n low : ℕ) (m out : List ℕ) (x :
     row-more : elementLow k s p ≡ 0 → low ≡ 0
         → (20 * (n + 1) ≤ nextItem s (elementEnd s p))
         × (take (entrySize k * (n + 1)) (elementPut k s p out n) ++ flat (λ e. objectNumbers k s (e .at)) (elementsFrom s (nextItem s (elementEnd s p)))
-        ≡ flat (λ e. objectNumbers k s (e .at)) (elementsFrom s start))
+        ≡ flat (λ e. objectNumbers k s (e .at)) (elementsAt s at))
     unfolding flat
     row-more f e =
         let l = element-long s k p f in
@@ -289,12 +295,13 @@ module _ (k : Kind) (s : List ℕ) (start p n low : ℕ) (m out : List ℕ) (x :
         object-past q = ends-object s p (eqb-true (byte s p) 0x7B q)
 
     pub walk-on : (low′ : ℕ) → low′ ≡ least low (elementLow k s p) → (out′ : List ℕ) → out′ ≡ elementPut k s p out n → (q : ℕ) → q ≡ nextItem s (elementEnd s p)
-        → Walking k s start q (n + 1) low′ m out′
+        → Walking k s at q (n + 1) low′ m out′
     unfolding arrayLow
     walk-on low′ el out′ eo q eq =
         let w = walk-element in
         rw (eo, eq) (record {
           end = x .end;
+          read = x .read;
           walk = w .rest;
           counted = omega (arith, ap length (w .found), x .counted);
           lows =

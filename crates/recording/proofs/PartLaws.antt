@@ -9,6 +9,7 @@ use borrow.Author.Tests.{ne-eqb}
 use Rattle.refusals.specs.Refusals.{rule, lowest, least}
 use Rattle.refusals.proofs.LeastLaws.{Ascending, rulesOf, either, lowest-either}
 use Rattle.tokens.specs.Text.{byte}
+use Rattle.tokens.specs.Lists.{any}
 use Rattle.members.specs.declared.Element.{Element}
 use Rattle.members.specs.Members.{elementsAt}
 use Rattle.fields.specs.Names.{Core, globals, captures, annotations}
@@ -19,18 +20,19 @@ use Rattle.layout.specs.declared.AnnotationEntry.{AnnotationEntry}
 use Rattle.layout.specs.declared.Count.{Count}
 use Rattle.layout.specs.declared.Count.the-variants as C
 use Rattle.layout.specs.Entries.{entryWidth, entryNumbers, entryOf, entryAt, countOf, noteWidth, noteNumbers, noteOf, noteAt, entries, notes, contentsIn}
-use Rattle.objects.specs.declared.GlobalFound.{GlobalFound}
 use Rattle.objects.specs.Fields.{Field, fieldsAt, misnamed, missing, mistyped}
-use Rattle.objects.specs.Global.{any, globalAt}
+use Rattle.objects.specs.Global.{globalAt}
 use Rattle.objects.specs.Capture.{badDatetime, captureIn, captureAt}
 use Rattle.objects.specs.Annotation.{annotationIn, annotationAt}
 use Rattle.objects.proofs.WalkLaws.{or-false}
 use Rattle.recording.specs.declared.Kind.{Kind}
 use Rattle.recording.specs.declared.Kind.the-variants as K
 use Rattle.recording.specs.declared.TopPlaces.{TopPlaces}
+use Rattle.recording.specs.declared.TopRead.{TopRead}
+use Rattle.recording.specs.declared.Scanned.{Scanned}
 use Rattle.recording.specs.File.{topAt, named, elementsIn, isObject, allObjects, fileOf, contentsOf}
 use Rattle.recording.specs.Reading.{misshapen, contents}
-use Rattle.recording.specs.Parts.{partRules, Found, begins, shaped, objectLow, elementLow, arrayLow, Kept, partsLow, partsContents}
+use Rattle.recording.specs.Parts.{partRules, Found, begins, shaped, objectLow, elementLow, arrayLow, Kept, PartsRead, scannedOf, partsLow, partsContents}
 use Rattle.recording.proofs.TopLaws.{placed-begins, placed-is}
 use Rattle.recording.proofs.ArrayLaws.{least-zero}
 
@@ -132,7 +134,7 @@ module _ (s : List ℕ) (t : TopPlaces) (f : Found s t) where
   all-true true false c e = let z : _≡_ {A = ℕ} 0 1 = cc in absurd (omega arith)
   all-true false b c e = let z : _≡_ {A = ℕ} 0 1 = cc in absurd (omega arith)
 
-  pub begun : shaped s t ≡ true → (begins s 0x7B (t .global) ≡ true) × ((begins s 0x5B (t .captures) ≡ true) × (begins s 0x5B (t .annotations) ≡ true))
+  begun : shaped s t ≡ true → (begins s 0x7B (t .global) ≡ true) × ((begins s 0x5B (t .captures) ≡ true) × (begins s 0x5B (t .annotations) ≡ true))
   begun e = all-true _ _ _ e
 
   module _ (e : shaped s t ≡ true) where
@@ -149,7 +151,7 @@ module _ (s : List ℕ) (t : TopPlaces) (f : Found s t) where
         ∙ rw (o, b .0, b .1 .0, b .1 .1, placed-is s 0x5B (t .captures) (b .1 .0) [] (elementsAt s) (f .captures), placed-is s 0x5B (t .annotations) (b .1 .1) [] (elementsAt s) (f .annotations))
         (not-and (allObjects s (elementsAt s (t .captures))) (allObjects s (elementsAt s (t .annotations))))
 
-    pub parts-low : isObject s (topAt s) ≡ true → partsLow s t ≡ lowest (partRules s (fileOf s))
+    parts-low : isObject s (topAt s) ≡ true → partsLow s t ≡ lowest (partRules s (fileOf s))
     unfolding globalAt
     parts-low o =
         rw (file, captures-low s (elementsAt s (t .captures)), annotations-low s (elementsAt s (t .annotations)))
@@ -159,7 +161,7 @@ module _ (s : List ℕ) (t : TopPlaces) (f : Found s t) where
     map-map g h [] = refl
     map-map g h (x ∷ l) = ap (λ (r : List _). g (h x) ∷ r) (map-map g h l)
 
-    pub parts-contents : partsContents s t ≡ contents s
+    parts-contents : partsContents s t ≡ contents s
     unfolding globalAt captureAt annotationAt contentsOf
     parts-contents =
         rw (file, map-map captureIn (λ e. fieldsAt s (e .at)) (elementsAt s (t .captures)), map-map annotationIn (λ e. fieldsAt s (e .at)) (elementsAt s (t .annotations)))
@@ -209,16 +211,26 @@ module _ (s : List ℕ) (es : List Element) (m : List ℕ) (n : ℕ) where
       (ap (λ (l : List ℕ). rowsFrom (λ i. noteAt l i) (length (map f es)) 0) (split noteWidth noteNumbers f (h .1))
       ∙ rows-back noteWidth noteOf noteNumbers (λ r. refl) note-back (map f es) (drop (noteWidth * n) m))
 
--- ---- what the code found
-module _ (s : List ℕ) (t : TopPlaces) (g : GlobalFound) (c a : ℕ) (eg : g ≡ globalAt s (t .global))
-    (ec : c ≡ arrayLow K.Capture s (elementsAt s (t .captures))) (ea : a ≡ arrayLow K.Annotation s (elementsAt s (t .annotations))) where
-  pub lows-found : (b low : ℕ) → b ≡ least (g .low) c → low ≡ least b a → low ≡ partsLow s t
-  lows-found b low eb el = rw (el, eb, eg, ec, ea)
+-- ---- what was read
+pub scanned : (t : TopRead) (b low : ℕ) → b ≡ least (t .global .low) (t .captures .low) → low ≡ least b (t .annotations .low)
+    → record { low = low; globals = t .global .globals; captures = t .captures .count; annotations = t .annotations .count } ≡ scannedOf t
+scanned t b low eb el = rw (el, eb)
 
-  pub contents-found : (b low : ℕ) → b ≡ least (g .low) c → low ≡ least b a → (caps notes : List ℕ) (n m : ℕ)
-      → (c ≡ 0 → Kept K.Capture s (elementsAt s (t .captures)) caps n) → (a ≡ 0 → Kept K.Annotation s (elementsAt s (t .annotations)) notes m)
-      → low ≡ 0 → contentsIn (g .globals) caps n notes m ≡ partsContents s t
-  contents-found b low eb el caps notes n m kc ka e =
-      let z = least-zero b a (sym el ∙ e) in
-      let y = least-zero (g .low) c (sym eb ∙ z .0) in
-      rw (eg, entries-kept s (elementsAt s (t .captures)) caps n (kc (y .1)), notes-kept s (elementsAt s (t .annotations)) notes m (ka (z .1)))
+module _ (s : List ℕ) (top : TopRead) (caps notes : List ℕ) (x : PartsRead s top caps notes)
+    (f : Found s (top .places)) (e : shaped s (top .places) ≡ true) where
+  lows-found : scannedOf top .low ≡ partsLow s (top .places)
+  lows-found = let b = begun s (top .places) f e in rw (x .global (b .0) .0, x .captures (b .1 .0) .0, x .annotations (b .1 .1) .0)
+
+  contents-found : scannedOf top .low ≡ 0
+      → contentsIn (top .global .globals) caps (top .captures .count) notes (top .annotations .count) ≡ partsContents s (top .places)
+  contents-found h =
+      let b = begun s (top .places) f e in
+      let z = least-zero (least (top .global .low) (top .captures .low)) (top .annotations .low) h in
+      let y = least-zero (top .global .low) (top .captures .low) (z .0) in
+      let kc = x .captures (b .1 .0) .1 (y .1) in
+      let ka = x .annotations (b .1 .1) .1 (z .1) in
+      rw (x .global (b .0) .1, entries-kept s (elementsAt s (top .places .captures)) caps _ kc, notes-kept s (elementsAt s (top .places .annotations)) notes _ ka)
+
+  pub scan-read : isObject s (topAt s) ≡ true → (r : Scanned) → r ≡ scannedOf top
+      → (r .low ≡ lowest (partRules s (fileOf s))) × (r .low ≡ 0 → contentsIn (r .globals) caps (r .captures) notes (r .annotations) ≡ contents s)
+  scan-read o r er = rw er (lows-found ∙ parts-low s (top .places) f e o, λ h. contents-found h ∙ parts-contents s (top .places) f e)

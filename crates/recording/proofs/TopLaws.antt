@@ -9,22 +9,30 @@ use lib.ListN.{length}
 use lib.Dec.{eqb}
 use borrow.Author.Tests.{eq-eqb, ne-eqb, eqb-true}
 use Rattle.tokens.specs.Text.{byte, ascii, skipBlanks}
+use Rattle.tokens.proofs.TextLaws.{cond-elim}
 use Rattle.grammar.specs.Reading.{isJson}
-use Rattle.decode.specs.Decode.{decodedFrom}
+use Rattle.grammar.specs.Skip.{skipValue}
 use Rattle.decode.specs.Same.{same}
+use Rattle.decode.proofs.DecodeLaws.{same-is}
 use Rattle.members.specs.declared.Member.{Member}
+use Rattle.members.specs.declared.MemberName.{MemberName}
 use Rattle.members.specs.declared.MemberStep.the-variants as M
-use Rattle.members.specs.Members.{memberStep, memberFound}
+use Rattle.members.specs.declared.NameStep.the-variants as S
+use Rattle.members.specs.Members.{nextItem, nameStep, memberStep, memberFound}
+use Rattle.members.proofs.WalkLaws.{member-unnamed, member-named}
 use Rattle.members.proofs.StepLaws.{member-steps}
 use Rattle.members.proofs.EndLaws.{members-found, members-over, member-places}
 use Rattle.members.proofs.ReadLaws.{Members, MemberRead, member-read, members-start, json-read}
+use Rattle.texts.specs.Texts.{nameText}
 use Rattle.fields.specs.Values.{partOf}
 use Rattle.fields.specs.Extensions.{memberName}
 use Rattle.objects.specs.Fields.{Value, fieldOf, fieldsAt, given}
 use Rattle.objects.proofs.WalkLaws.{fieldsFrom}
+use Rattle.recording.specs.declared.TopName.{TopName}
+use Rattle.recording.specs.declared.TopName.the-variants as N
 use Rattle.recording.specs.declared.TopPlaces.{TopPlaces}
 use Rattle.recording.specs.File.{topAt, namedFrom, isObject}
-use Rattle.recording.specs.Parts.{WasRead, Placed, absent, present, Found, begins, shaped}
+use Rattle.recording.specs.Parts.{WasPassed, topName, nowhere, placesWith, Placed, absent, present, Found, begins, shaped}
 
 -- ---- one name, sought from j on; p is the place of the value found so far
 pub record Sought (s n : List ℕ) (start j p : ℕ) : Type 0 where
@@ -61,15 +69,15 @@ module _ (s n : List ℕ) (start : ℕ) where
     sought-end e = subst (Placed s p) (ap (namedFrom n (x .value)) (sym (ap (map (fieldOf s)) (members-over s j e))) ∙ x .left) (x .placed)
 
 -- ---- the three names
-pub record Finding (s : List ℕ) (start j g c a : ℕ) : Type 0 where
+pub record Finding (s : List ℕ) (start j : ℕ) (t : TopPlaces) : Type 0 where
   pub end : ℕ
   pub walk : Members 31 s end j
-  pub global : Sought s (ascii "global") start j g
-  pub captures : Sought s (ascii "captures") start j c
-  pub annotations : Sought s (ascii "annotations") start j a
+  pub global : Sought s (ascii "global") start j (t .global)
+  pub captures : Sought s (ascii "captures") start j (t .captures)
+  pub annotations : Sought s (ascii "annotations") start j (t .annotations)
 
 module _ (s : List ℕ) (at start : ℕ) (ea : at ≡ topAt s) (es : start ≡ skipBlanks s (at + 1)) where
-  pub find-begin : isJson s ≡ true → byte s at ≡ 0x7B → Finding s start start 0 0 0
+  pub find-begin : isJson s ≡ true → byte s at ≡ 0x7B → Finding s start start nowhere
   find-begin h b =
       let r = json-read s h in
       record {
@@ -80,31 +88,89 @@ module _ (s : List ℕ) (at start : ℕ) (ea : at ≡ topAt s) (es : start ≡ s
         annotations = sought-begin s (ascii "annotations") start;
       }
 
-  pub find-end : (j g c a : ℕ) → Finding s start j g c a → memberStep s j ≡ M.End → Found s (record { global = g; captures = c; annotations = a })
-  find-end j g c a x e =
+  pub find-end : (j : ℕ) (t : TopPlaces) → Finding s start j t → nameStep s j ≡ S.End → Found s t
+  find-end j t x e =
       let f : fieldsFrom s start ≡ fieldsAt s (topAt s) = ap (fieldsFrom s) es ∙ ap (λ (i : ℕ). fieldsAt s i) ea in
+      let o = sym (member-unnamed s j e) in
       record {
-        global = rw f at (sought-end s (ascii "global") start j g (x .global) e);
-        captures = rw f at (sought-end s (ascii "captures") start j c (x .captures) e);
-        annotations = rw f at (sought-end s (ascii "annotations") start j a (x .annotations) e);
+        global = rw f at (sought-end s (ascii "global") start j (t .global) (x .global) o);
+        captures = rw f at (sought-end s (ascii "captures") start j (t .captures) (x .captures) o);
+        annotations = rw f at (sought-end s (ascii "annotations") start j (t .annotations) (x .annotations) o);
       }
 
-module _ (s : List ℕ) (start j g c a : ℕ) (x : Finding s start j g c a) (m : Member) (k : ℕ) (e : memberStep s j ≡ M.Found m k) where
-  pub find-past : (j < k) × (j < length s)
-  find-past = member-steps s j m k (ap memberFound e)
+-- which of them a name is
+module _ (w : List ℕ) where
+  module _ (t : Bool) (e : t ≡ same w (ascii "global")) where
+    pub name-global : t ≡ true → N.Global ≡ topName w
+    unfolding topName
+    name-global h = rw (← e, h)
 
-  pub find-on : (name : List ℕ) → name ≡ partOf s (m .name) (m .quote) → (t u v : Bool)
-      → t ≡ same (decodedFrom name 0) (ascii "global") → u ≡ same (decodedFrom name 0) (ascii "captures") → v ≡ same (decodedFrom name 0) (ascii "annotations")
-      → (g′ c′ a′ : ℕ) → g′ ≡ cond t (m .value) g → c′ ≡ cond u (m .value) c → a′ ≡ cond v (m .value) a → Finding s start k g′ c′ a′
-  find-on name en t u v et eu ev g′ c′ a′ eg ec ea =
-      let r = member-read 31 s (x .end) j (x .walk) m k e in
-      record {
-        end = x .end;
-        walk = r .rest;
-        global = sought-on s (ascii "global") start j g (x .global) m k (x .end) e r t (et ∙ ap (λ (l : List ℕ). same (decodedFrom l 0) (ascii "global")) en) g′ eg;
-        captures = sought-on s (ascii "captures") start j c (x .captures) m k (x .end) e r u (eu ∙ ap (λ (l : List ℕ). same (decodedFrom l 0) (ascii "captures")) en) c′ ec;
-        annotations = sought-on s (ascii "annotations") start j a (x .annotations) m k (x .end) e r v (ev ∙ ap (λ (l : List ℕ). same (decodedFrom l 0) (ascii "annotations")) en) a′ ea;
-      }
+    module _ (n : t ≡ false) (u : Bool) (f : u ≡ same w (ascii "captures")) where
+      pub name-captures : u ≡ true → N.Captures ≡ topName w
+      unfolding topName
+      name-captures h = rw (← e, n, ← f, h)
+
+      module _ (m : u ≡ false) (v : Bool) (g : v ≡ same w (ascii "annotations")) where
+        pub name-annotations : v ≡ true → N.Annotations ≡ topName w
+        unfolding topName
+        name-annotations h = rw (← e, n, ← f, m, ← g, h)
+
+        pub name-other : v ≡ false → N.Other ≡ topName w
+        unfolding topName
+        name-other h = rw (← e, n, ← f, m, ← g, h)
+
+-- a name is at most one of the three
+apart : (w k l : List ℕ) → same k l ≡ false → same w k ≡ true → same w l ≡ false
+apart w k l f e = rw (same-is w k e) f
+
+places-told : (w : List ℕ) (at : ℕ) (t : TopPlaces) → placesWith (topName w) at t
+    ≡ record {
+      global = cond (same w (ascii "global")) at (t .global);
+      captures = cond (same w (ascii "captures")) at (t .captures);
+      annotations = cond (same w (ascii "annotations")) at (t .annotations);
+    }
+unfolding topName same
+places-told w at t =
+    go (same w (ascii "global")) (same w (ascii "captures")) (same w (ascii "annotations"))
+    (λ e. (apart w (ascii "global") (ascii "captures") refl e, apart w (ascii "global") (ascii "annotations") refl e))
+    (λ e. apart w (ascii "captures") (ascii "annotations") refl e)
+  where
+    go : (a b c : Bool) → (a ≡ true → (b ≡ false) × (c ≡ false)) → (b ≡ true → c ≡ false)
+        → placesWith (cond a N.Global (cond b N.Captures (cond c N.Annotations N.Other))) at t
+        ≡ record { global = cond a at (t .global); captures = cond b at (t .captures); annotations = cond c at (t .annotations) }
+    go true b c f g = rw (f refl .0, f refl .1)
+    go false true c f g = rw (g refl)
+    go false false true f g = refl
+    go false false false f g = refl
+
+module _ (s : List ℕ) (start j : ℕ) (t : TopPlaces) (x : Finding s start j t) (n : MemberName) (e : nameStep s j ≡ S.Found n) where
+  abbrev found : Member
+  found = record { name = n .name; quote = n .quote; value = n .value; end = skipValue s (n .value) }
+
+  abbrev next : ℕ
+  next = nextItem s (skipValue s (n .value))
+
+  step : memberStep s j ≡ M.Found found next
+  step = sym (member-named s j n e (skipValue s (n .value)) next refl refl)
+
+  pub find-read : WasPassed s (n .value)
+  find-read = member-read 31 s (x .end) j (x .walk) found next step .value
+
+  module _ (k end : ℕ) (ek : k ≡ nextItem s end) (ee : end ≡ skipValue s (n .value)) where
+    pub find-past : (j < k) × (j < length s)
+    find-past = rw (ek, ee) (member-steps s j found next (ap memberFound step))
+
+    pub find-on : (name : List ℕ) → name ≡ partOf s (n .name) (n .quote) → (which : TopName) → which ≡ topName (nameText name)
+        → (t′ : TopPlaces) → t′ ≡ placesWith which (n .value) t → Finding s start k t′
+    find-on name en which ew t′ et =
+        let r = member-read 31 s (x .end) j (x .walk) found next step in
+        rw (ek, ee, et, ew, en, places-told (memberName s found) (n .value) t) (record {
+          end = x .end;
+          walk = r .rest;
+          global = sought-on s (ascii "global") start j (t .global) (x .global) found next (x .end) step r _ refl _ refl;
+          captures = sought-on s (ascii "captures") start j (t .captures) (x .captures) found next (x .end) step r _ refl _ refl;
+          annotations = sought-on s (ascii "annotations") start j (t .annotations) (x .annotations) found next (x .end) step r _ refl _ refl;
+        })
 
 -- ---- what a place tells
 module _ (s : List ℕ) (b p : ℕ) where
@@ -125,9 +191,11 @@ module _ (s : List ℕ) (b p : ℕ) where
     placed-is z f (absent h) = let k : false ≡ true = begins-none h ∙ e in let n : _≡_ {A = ℕ} 0 1 = cc in absurd (omega arith)
     placed-is z f (present h l r) = ap f (sym h)
 
-    pub placed-read : {v : Option Value} → Placed s p v → WasRead 31 s p × (byte s p ≡ b)
-    placed-read (absent h) = let k : false ≡ true = begins-none h ∙ e in let n : _≡_ {A = ℕ} 0 1 = cc in absurd (omega arith)
-    placed-read (present h l r) = (r, eqb-true (byte s p) b (begins-at (λ z. omega arith) ∙ e))
+  pub begins-other : (byte s p ≡ b → ⊥) → begins s b p ≡ true → ⊥
+  unfolding begins
+  begins-other f =
+      cond-elim (λ (t : Bool). t ≡ true → ⊥) (eqb p 0) _ _
+      (λ _ h. let n : _≡_ {A = ℕ} 0 1 = cc in omega arith) (λ _ h. f (eqb-true (byte s p) b h))
 
 pub top-object : (s : List ℕ) (at : ℕ) → at ≡ topAt s → byte s at ≡ 0x7B → isObject s (topAt s) ≡ true
 top-object s at e b = eq-eqb (byte s (topAt s)) 0x7B (ap (byte s) (sym e) ∙ b)

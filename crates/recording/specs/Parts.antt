@@ -1,15 +1,17 @@
 -- For the code: the stages of reading, and what each part of a metadata file gives cause for.
 use mathlib.Core.Path.{_≡_}
-use mathlib.Core.Bool.{Bool, false, cond, _&&_}
+use mathlib.Core.Bool.{Bool, true, false, cond, _&&_}
 use mathlib.Core.List.{List, [], _∷_, map}
 use mathlib.Core.Option.{Option, none, some}
 use Prim.Native.Nat.{ℕ, _≤_, _<_, _+_, _*_}
 use lib.ListN.{length, take}
 use lib.Dec.{eqb}
 use Rattle.refusals.specs.Refusals.{Rule, rule, least}
-use Rattle.tokens.specs.Text.{byte, to}
+use Rattle.tokens.specs.Text.{byte, ascii, to}
+use Rattle.tokens.specs.Lists.{any}
 use Rattle.grammar.specs.Reading.{valueAt}
 use Rattle.grammar.specs.Skip.{skipValue}
+use Rattle.decode.specs.Same.{same}
 use Rattle.members.specs.declared.Element.{Element}
 use Rattle.members.specs.Members.{elementsAt}
 use Rattle.fields.specs.Names.{globals, captures, annotations}
@@ -18,12 +20,18 @@ use Rattle.table.specs.Rows.{flat}
 use Rattle.layout.specs.Layout.{Contents, unordered, notWhole, outside}
 use Rattle.layout.specs.Entries.{entryWidth, entryNumbers, noteWidth, noteNumbers}
 use Rattle.objects.specs.Fields.{Value, closeAt, misnamed, missing, mistyped}
-use Rattle.objects.specs.Global.{any, otherVersion, otherDatatype, badChannels, badExtension, needsExtension, noDataset, globalAt}
+use Rattle.objects.specs.Global.{otherVersion, otherDatatype, badChannels, badExtension, needsExtension, noDataset, globalAt}
 use Rattle.objects.specs.Capture.{badDatetime, captureAt}
 use Rattle.objects.specs.Annotation.{annotationAt}
 use Rattle.recording.specs.declared.Kind.{Kind}
 use Rattle.recording.specs.declared.Kind.the-variants as K
+use Rattle.recording.specs.declared.TopName.{TopName}
+use Rattle.recording.specs.declared.TopName.the-variants as N
 use Rattle.recording.specs.declared.TopPlaces.{TopPlaces}
+use Rattle.recording.specs.declared.GlobalRead.{GlobalRead}
+use Rattle.recording.specs.declared.ArrayRead.{ArrayRead}
+use Rattle.recording.specs.declared.TopRead.{TopRead}
+use Rattle.recording.specs.declared.Scanned.{Scanned}
 use Rattle.recording.specs.File.{File, named, isObject}
 use Rattle.recording.specs.Reading.{badLength, notJson, badMembers, misshapen, inFile}
 
@@ -54,6 +62,26 @@ sampleRules k d rows = rule 15 (unordered k) ∷ rule 16 (notWhole k d) ∷ rule
 -- the value at a place was read, with d levels below
 abbrev pub WasRead : ℕ → List ℕ → ℕ → Type 0
 WasRead d s at = (j : ℕ) × (valueAt d s at ≡ to j)
+
+-- and a walk passes it
+abbrev pub WasPassed : List ℕ → ℕ → Type 0
+WasPassed s at = valueAt 31 s at ≡ to (skipValue s at)
+
+-- which of the three names a decoded one is
+unfoldable pub topName : List ℕ → TopName
+topName n =
+    cond (same n (ascii "global")) N.Global
+    (cond (same n (ascii "captures")) N.Captures (cond (same n (ascii "annotations")) N.Annotations N.Other))
+
+-- the places of the three members: none yet, and after one more with its value at a place
+abbrev pub nowhere : TopPlaces
+nowhere = record { global = 0; captures = 0; annotations = 0 }
+
+abbrev pub placesWith : TopName → ℕ → TopPlaces → TopPlaces
+placesWith N.Global at t = record { global = at; captures = t .captures; annotations = t .annotations }
+placesWith N.Captures at t = record { global = t .global; captures = at; annotations = t .annotations }
+placesWith N.Annotations at t = record { global = t .global; captures = t .captures; annotations = at }
+placesWith N.Other at t = t
 
 -- a member's value kept by its place p; 0 stands for none
 pub data Placed (s : List ℕ) (p : ℕ) : Option Value → Type 0 where
@@ -110,7 +138,28 @@ Kept k s es m n = (n ≡ length es) × (take (entrySize k * n) m ≡ flat (λ e.
 abbrev pub Room : List ℕ → List ℕ → List ℕ → Type 0
 Room s caps notes = (entrySize K.Capture * length s ≤ 20 * length caps) × (entrySize K.Annotation * length s ≤ 20 * length notes)
 
+-- ---- what was read of the three parts: of one that has not its own shape, anything
+abbrev pub GlobalIs : List ℕ → ℕ → GlobalRead → Type 0
+GlobalIs s p g = begins s 0x7B p ≡ true → (g .low ≡ globalAt s p .low) × (g .globals ≡ globalAt s p .globals)
+
+abbrev pub ArrayIs : Kind → List ℕ → ℕ → ArrayRead → List ℕ → Type 0
+ArrayIs k s p a m =
+    begins s 0x5B p ≡ true → (a .low ≡ arrayLow k s (elementsAt s p)) × (a .low ≡ 0 → Kept k s (elementsAt s p) m (a .count))
+
+pub record PartsRead (s : List ℕ) (top : TopRead) (caps notes : List ℕ) : Type 0 where
+  pub global : GlobalIs s (top .places .global) (top .global)
+  pub captures : ArrayIs K.Capture s (top .places .captures) (top .captures) caps
+  pub annotations : ArrayIs K.Annotation s (top .places .annotations) (top .annotations) notes
+
 -- ---- the three parts together
+abbrev pub scannedOf : TopRead → Scanned
+scannedOf t = record {
+  low = least (least (t .global .low) (t .captures .low)) (t .annotations .low);
+  globals = t .global .globals;
+  captures = t .captures .count;
+  annotations = t .annotations .count;
+}
+
 abbrev pub partsLow : List ℕ → TopPlaces → ℕ
 partsLow s t =
     least (least (globalAt s (t .global) .low) (arrayLow K.Capture s (elementsAt s (t .captures)))) (arrayLow K.Annotation s (elementsAt s (t .annotations)))

@@ -4,6 +4,7 @@ use mathlib.Core.List.{List, [], _∷_, _++_}
 use Prim.Native.Nat.{ℕ}
 use lib.ListN.{length}
 use lib.Dec.{eqb, ltb}
+use Rattle.tokens.specs.Lists.{any}
 use Rattle.limits.specs.Limits.{metadata, dataset, nesting}
 use Rattle.refusals.specs.Refusals.{Rule, rule, lowest}
 use Rattle.grammar.specs.Reading.{isJson}
@@ -14,7 +15,7 @@ use Rattle.table.specs.Memory.{written}
 use Rattle.table.specs.Rows.{captureNumbers, annotationNumbers, flat}
 use Rattle.layout.specs.Layout.{Contents, unordered, notWhole, outside, tooMany, capturesIn, annotationsIn, summaryOr}
 use Rattle.objects.specs.Fields.{Field, given, misnamed, missing, mistyped}
-use Rattle.objects.specs.Global.{any, otherVersion, otherDatatype, badChannels, badExtension, needsExtension, noDataset}
+use Rattle.objects.specs.Global.{otherVersion, otherDatatype, badChannels, badExtension, needsExtension, noDataset}
 use Rattle.objects.specs.Capture.{badDatetime}
 use Rattle.recording.specs.File.{File, topAt, named, isObject, isListing, fileOf, contentsOf}
 

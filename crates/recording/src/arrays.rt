@@ -2,7 +2,8 @@
 ghost use mathlib.Core.Path.{_≡_};
 ghost use Prim.Native.Nat.{_≤_, _*_};
 ghost use lib.ListN.{length};
-ghost use Rattle.tokens.specs.Text.{byte};
+ghost use Rattle.tokens.specs.Text.{byte, to};
+ghost use Rattle.grammar.specs.Reading.{valueAt};
 ghost use Rattle.members.specs.Members.{elementsAt};
 ghost use Rattle.table.specs.Memory.{putRow};
 ghost use Rattle.objects.specs.Fields.{closeAt};
@@ -71,6 +72,7 @@ pub(crate) fn read_array(kind: Kind, s: &[u8], at: usize, out: &mut [u64]) -> Ar
     requires { ⌜ entrySize kind * length (now s) ≤ 20 * length (now out) ⌝ }
     ensures { λ r. ⌜ r .low ≡ arrayLow kind (now (s .entry)) (elementsAt (now (s .entry)) at) ⌝ }
     ensures { λ r. ⌜ (r .low ≡ 0 → Kept kind (now (s .entry)) (elementsAt (now (s .entry)) at) (now (out .exit)) (r .count)) ⌝ }
+    ensures { λ r. ⌜ valueAt 31 (now (s .entry)) at ≡ to (r .end) ⌝ }
 {
     let c = Cursor { at: at + 1 }.skip_blanks(s);
     let mut p = c.at;
@@ -79,7 +81,11 @@ pub(crate) fn read_array(kind: Kind, s: &[u8], at: usize, out: &mut [u64]) -> Ar
     loop {
         let b = peek(s, p);
         if b == b']' {
-            return ArrayRead { low: low, count: n };
+            return ArrayRead {
+                low: low,
+                count: n,
+                end: p + 1,
+            };
         }
         let e = read_element(kind, s, p, out, n);
         low = least(low, e.low);

@@ -45,6 +45,36 @@ pub(crate) struct ElementRead {
 pub(crate) struct ArrayRead {
     pub(crate) low: u64,
     pub(crate) count: usize,
+    pub(crate) end: usize,
+}
+
+// The same of the global object, and what it says.
+pub(crate) struct GlobalRead {
+    pub(crate) low: u64,
+    pub(crate) globals: Globals,
+    pub(crate) end: usize,
+}
+
+// The names of the top level.
+pub(crate) enum TopName {
+    Global,
+    Captures,
+    Annotations,
+    Other,
+}
+
+// The members of the top level that were read so far: the places of the three, and what was read there.
+pub(crate) struct TopRead {
+    pub(crate) places: TopPlaces,
+    pub(crate) global: GlobalRead,
+    pub(crate) captures: ArrayRead,
+    pub(crate) annotations: ArrayRead,
+}
+
+// The same after one member more, and the place past its value.
+pub(crate) struct TopStep {
+    pub(crate) top: TopRead,
+    pub(crate) end: usize,
 }
 
 // The lowest of 4 to 14 that the parts of a text give cause for, 0 for none; what they say, with how many entries are kept.

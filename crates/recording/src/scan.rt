@@ -6,33 +6,26 @@ ghost use Rattle.refusals.specs.Refusals.{lowest};
 ghost use Rattle.layout.specs.Entries.{contentsIn};
 ghost use Rattle.recording.specs.File.{fileOf};
 ghost use Rattle.recording.specs.Reading.{contents};
-ghost use Rattle.recording.specs.Parts.{partRules, Found, shaped, Room, partsLow, partsContents};
-use crate::Kind;
+ghost use Rattle.recording.specs.Parts.{partRules, Room, scannedOf};
 use crate::Scanned;
-use crate::TopPlaces;
-use crate::arrays::read_array;
-use crate::top::find_top;
+use crate::TopRead;
 use crate::top::is_shaped;
-use layout::Globals;
-use objects::global::read_global;
+use crate::top::no_globals;
+use crate::top::read_top;
 use refusals::least;
 use tokens::Cursor;
 use tokens::peek;
 
-// The global object, the captures and the annotations, each of its own shape.
-fn read_parts(s: &[u8], t: TopPlaces, caps: &mut [u64], notes: &mut [u64]) -> Scanned
-    requires { ⌜ Found (now s) t ⌝ }
-    requires { ⌜ shaped (now s) t ≡ true ⌝ }
-    requires { ⌜ Room (now s) (now caps) (now notes) ⌝ }
-    ensures { λ r. ⌜ r .low ≡ partsLow (now (s .entry)) t ⌝ }
-    ensures { λ r. ⌜ (r .low ≡ 0 → contentsIn (r .globals) (now (caps .exit)) (r .captures) (now (notes .exit)) (r .annotations) ≡ partsContents (now (s .entry)) t) ⌝ }
+// The three parts, each of its own shape, together.
+fn together(top: TopRead) -> Scanned
+    ensures { λ r. ⌜ r ≡ scannedOf top ⌝ }
 {
-    let g = read_global(s, t.global);
-    let globals = g.globals;
-    let c = read_array(Kind::Capture, s, t.captures, caps);
-    let a = read_array(Kind::Annotation, s, t.annotations, notes);
+    let g = top.global;
+    let c = top.captures;
+    let a = top.annotations;
     let both = least(g.low, c.low);
     let low = least(both, a.low);
+    let globals = g.globals;
     Scanned {
         low: low,
         globals: globals,
@@ -47,14 +40,7 @@ fn no_parts() -> Scanned
 {
     Scanned {
         low: 4,
-        globals: Globals {
-            datatype: 0,
-            channels: 0,
-            offset: 0,
-            trailing: 0,
-            rate: 0,
-            ratelen: 0,
-        },
+        globals: no_globals(),
         captures: 0,
         annotations: 0,
     }
@@ -70,9 +56,10 @@ pub(crate) fn scan(s: &[u8], caps: &mut [u64], notes: &mut [u64]) -> Scanned
     let at = c.at;
     let b = peek(s, at);
     if b == b'{' {
-        let t = find_top(s, at);
+        let top = read_top(s, at, caps, notes);
+        let t = top.places;
         if is_shaped(s, t) {
-            return read_parts(s, t, caps, notes);
+            return together(top);
         }
         return no_parts();
     }

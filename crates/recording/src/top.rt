@@ -1,55 +1,197 @@
 // The members of the top level.
 ghost use mathlib.Core.Path.{_≡_};
-ghost use mathlib.Core.Bool.{true, cond};
+ghost use mathlib.Core.Bool.{true};
+ghost use Prim.Native.Nat.{_≤_, _*_};
+ghost use lib.ListN.{length};
 ghost use Rattle.tokens.specs.Text.{byte};
 ghost use Rattle.grammar.specs.Reading.{isJson};
+ghost use Rattle.grammar.specs.Skip.{skipValue};
+ghost use Rattle.texts.specs.Texts.{nameText};
 ghost use Rattle.recording.specs.File.{topAt};
-ghost use Rattle.recording.specs.Parts.{Found, begins, shaped};
+ghost use Rattle.recording.specs.Parts.{topName, nowhere, placesWith, Found, begins, shaped};
+ghost use Rattle.recording.specs.Parts.{WasPassed, entrySize, Room, GlobalIs, ArrayIs, PartsRead};
+use crate::ArrayRead;
+use crate::GlobalRead;
+use crate::Kind;
+use crate::TopName;
 use crate::TopPlaces;
+use crate::TopRead;
+use crate::TopStep;
+use crate::arrays::read_array;
 use decode::text_is;
 use fields::value::part_of;
-use members::MemberStep;
-use members::next_member;
+use layout::Globals;
+use members::NameStep;
+use members::next_item;
+use members::next_name;
+use members::skip_value;
+use objects::global::read_global;
 use tokens::Cursor;
 use tokens::peek;
 
-// The later of two places, if its name is the one sought.
-fn newer(found: bool, value: usize, old: usize) -> usize
-    ensures { λ r. ⌜ r ≡ cond found value old ⌝ }
+// Which of the three names a raw one is.
+fn top_name(name: &[u8]) -> TopName
+    ensures { λ r. ⌜ r ≡ topName (nameText (now (name .entry))) ⌝ }
 {
-    if found {
-        return value;
+    if text_is(name, 0, b"global") {
+        return TopName::Global;
     }
-    old
+    if text_is(name, 0, b"captures") {
+        return TopName::Captures;
+    }
+    if text_is(name, 0, b"annotations") {
+        return TopName::Annotations;
+    }
+    TopName::Other
 }
 
-// The places of global, captures and annotations in the top level's object.
-pub(crate) fn find_top(s: &[u8], at: usize) -> TopPlaces
+pub(crate) fn no_globals() -> Globals {
+    Globals {
+        datatype: 0,
+        channels: 0,
+        offset: 0,
+        trailing: 0,
+        rate: 0,
+        ratelen: 0,
+    }
+}
+
+// Nothing read.
+fn no_top() -> TopRead
+    ensures { λ r. ⌜ r .places ≡ nowhere ⌝ }
+{
+    TopRead {
+        places: TopPlaces {
+            global: 0,
+            captures: 0,
+            annotations: 0,
+        },
+        global: GlobalRead {
+            low: 4,
+            globals: no_globals(),
+            end: 0,
+        },
+        captures: ArrayRead {
+            low: 4,
+            count: 0,
+            end: 0,
+        },
+        annotations: ArrayRead {
+            low: 4,
+            count: 0,
+            end: 0,
+        },
+    }
+}
+
+// The value of global: 4 if it is no object.
+fn read_globals(s: &[u8], at: usize) -> GlobalRead
+    requires { ⌜ WasPassed (now s) at ⌝ }
+    ensures { λ r. ⌜ GlobalIs (now (s .entry)) at r ⌝ }
+    ensures { λ r. ⌜ r .end ≡ skipValue (now (s .entry)) at ⌝ }
+{
+    let b = peek(s, at);
+    if b == b'{' {
+        let g = read_global(s, at);
+        let globals = g.globals;
+        return GlobalRead {
+            low: g.low,
+            globals: globals,
+            end: g.close + 1,
+        };
+    }
+    let e = skip_value(s, at);
+    GlobalRead {
+        low: 4,
+        globals: no_globals(),
+        end: e,
+    }
+}
+
+// The value of captures or annotations: 4 if it is no array.
+fn read_list(kind: Kind, s: &[u8], at: usize, out: &mut [u64]) -> ArrayRead
+    requires { ⌜ WasPassed (now s) at ⌝ }
+    requires { ⌜ entrySize kind * length (now s) ≤ 20 * length (now out) ⌝ }
+    ensures { λ r. ⌜ ArrayIs kind (now (s .entry)) at r (now (out .exit)) ⌝ }
+    ensures { λ r. ⌜ r .end ≡ skipValue (now (s .entry)) at ⌝ }
+{
+    let b = peek(s, at);
+    if b == b'[' {
+        return read_array(kind, s, at, out);
+    }
+    let e = skip_value(s, at);
+    ArrayRead {
+        low: 4,
+        count: 0,
+        end: e,
+    }
+}
+
+// The value at a place of a member with a name.
+fn read_part(
+    name: TopName,
+    s: &[u8],
+    at: usize,
+    top: TopRead,
+    caps: &mut [u64],
+    notes: &mut [u64],
+) -> TopStep
+    requires { ⌜ WasPassed (now s) at ⌝ }
+    requires { ⌜ Room (now s) (now caps) (now notes) ⌝ }
+    requires { ⌜ PartsRead (now s) top (now caps) (now notes) ⌝ }
+    ensures { λ r. ⌜ r .top .places ≡ placesWith name at (top .places) ⌝ }
+    ensures { λ r. ⌜ PartsRead (now (s .entry)) (r .top) (now (caps .exit)) (now (notes .exit)) ⌝ }
+    ensures { λ r. ⌜ r .end ≡ skipValue (now (s .entry)) at ⌝ }
+{
+    let mut t = top;
+    match name {
+        TopName::Global => {
+            let g = read_globals(s, at);
+            t.places.global = at;
+            t.global = g;
+            TopStep { top: t, end: g.end }
+        }
+        TopName::Captures => {
+            let c = read_list(Kind::Capture, s, at, caps);
+            t.places.captures = at;
+            t.captures = c;
+            TopStep { top: t, end: c.end }
+        }
+        TopName::Annotations => {
+            let a = read_list(Kind::Annotation, s, at, notes);
+            t.places.annotations = at;
+            t.annotations = a;
+            TopStep { top: t, end: a.end }
+        }
+        TopName::Other => {
+            let e = skip_value(s, at);
+            TopStep { top: t, end: e }
+        }
+    }
+}
+
+// The members of the top level's object, each passed by its own end.
+pub(crate) fn read_top(s: &[u8], at: usize, caps: &mut [u64], notes: &mut [u64]) -> TopRead
     requires { ⌜ isJson (now s) ≡ true ⌝ }
     requires { ⌜ at ≡ topAt (now s) ⌝ }
     requires { ⌜ byte (now s) at ≡ 0x7B ⌝ }
-    ensures { λ r. ⌜ Found (now (s .entry)) r ⌝ }
+    requires { ⌜ Room (now s) (now caps) (now notes) ⌝ }
+    ensures { λ r. ⌜ Found (now (s .entry)) (r .places) ⌝ }
+    ensures { λ r. ⌜ PartsRead (now (s .entry)) r (now (caps .exit)) (now (notes .exit)) ⌝ }
 {
     let c = Cursor { at: at + 1 }.skip_blanks(s);
     let mut j = c.at;
-    let mut global = 0usize;
-    let mut captures = 0usize;
-    let mut annotations = 0usize;
+    let mut top = no_top();
     loop {
-        let g = next_member(s, j);
-        let MemberStep::Found(m, next) = g else {
-            return TopPlaces {
-                global: global,
-                captures: captures,
-                annotations: annotations,
-            };
+        let g = next_name(s, j);
+        let NameStep::Found(n) = g else {
+            return top;
         };
-        let name = part_of(s, m.name, m.quote);
-        let v = m.value;
-        global = newer(text_is(name, 0, b"global"), v, global);
-        captures = newer(text_is(name, 0, b"captures"), v, captures);
-        annotations = newer(text_is(name, 0, b"annotations"), v, annotations);
-        j = next;
+        let name = part_of(s, n.name, n.quote);
+        let which = top_name(name);
+        let r = read_part(which, s, n.value, top, caps, notes);
+        top = r.top;
+        j = next_item(s, r.end);
     }
 }
 

@@ -56,6 +56,7 @@ impl Annotation {
 }
 
 // Where a sample starts, or why not.
+#[repr(C)]
 pub struct Located {
     pub refusal: u64,
     pub byte: u64,

@@ -5,8 +5,9 @@ use mathlib.Core.List.{List, [], _∷_}
 use mathlib.Core.Option.{none, some}
 use Prim.Native.Nat.{ℕ, _≤_, _<_, _+_, _*_, _-_}
 use native.Mathlib.Omega.{arith}
+use lib.ListN.{List·getD-eq-default}
 use lib.Dec.{eqb, leb}
-use borrow.Author.Tests.{eq-eqb, ne-eqb, lt-leb, le-leb}
+use borrow.Author.Tests.{eq-eqb, ne-eqb, lt-leb, le-leb, eqb-true, eqb-false}
 use Rattle.tokens.specs.Number.{digit}
 use Rattle.tokens.proofs.TextLaws.{within-is}
 use Rattle.decode.specs.Decode.{stream}
@@ -23,7 +24,7 @@ use Rattle.texts.specs.declared.ClockRead.the-variants as C
 use Rattle.texts.specs.declared.Fraction.{Fraction}
 use Rattle.texts.specs.declared.Fraction.the-variants as F
 use Rattle.texts.specs.Datetimes.{Got, got, bad, thenGot, pairOf, markAfter, pairThen, dateOf, clockOf, isEmpty, startsDigit, zoned, leadingDigits, fractionOf}
-use Rattle.texts.specs.Datetimes.{dateOk, clockOk, lastDay, momentOf, withClock, withDate, datetimeOf, pairSays, dateSays, clockSays, fractionSays}
+use Rattle.texts.specs.Datetimes.{dateOk, clockOk, monthDays, lastDay, momentOf, withClock, withDate, datetimeOf, pairSays, dateSays, clockSays, fractionSays}
 
 -- ---- the next byte of a text x
 module _ (x : List ℕ) where
@@ -222,6 +223,28 @@ module _ (s : List ℕ) (at k : ℕ) (p : Pair) (ep : pairSays s p ≡ pairThen 
       pub clock-4 : (n i j : ℕ) → r ≡ P.Value n i j → got (record { hour = c; minute = m; second = n }) (stream s i j) ≡ clockOf (stream s at k)
       unfolding clockOf
       clock-4 n i j h = then-value s _ _ p ep c a b _ hp (then-value s _ _ q eq m e f _ hq (then-value s _ _ r er n i j _ h refl))
+
+-- ---- a month's last day
+past : (m k : ℕ) → k ≤ m → (m ≡ k → ⊥) → k + 1 ≤ m
+past m k h n = omega arith
+
+least : (m : ℕ) → 0 ≤ m
+least m = omega arith
+
+-- there is none, if the number is none of 1 to 12
+module _ (y m : ℕ) (n1 : m ≡ 1 → ⊥) (n2 : m ≡ 2 → ⊥) (n3 : m ≡ 3 → ⊥) (n4 : m ≡ 4 → ⊥) (n5 : m ≡ 5 → ⊥) (n6 : m ≡ 6 → ⊥)
+    (n7 : m ≡ 7 → ⊥) (n8 : m ≡ 8 → ⊥) (n9 : m ≡ 9 → ⊥) (n10 : m ≡ 10 → ⊥) (n11 : m ≡ 11 → ⊥) (n12 : m ≡ 12 → ⊥) where
+  over : (m ≡ 0 → ⊥) → 13 ≤ m
+  over n0 =
+      past m 12 (past m 11 (past m 10 (past m 9 (past m 8 (past m 7 (past m 6 (past m 5 (past m 4 (past m 3 (past m 2 (past m 1
+      (past m 0 (least m) n0) n1) n2) n3) n4) n5) n6) n7) n8) n9) n10) n11) n12
+
+  pub no-month : 0 ≡ lastDay y m
+  unfolding lastDay monthDays
+  no-month = go (eqb m 0) refl where
+    go : (t : Bool) → eqb m 0 ≡ t → 0 ≡ lastDay y m
+    go true e = rw (eqb-true m 0 e)
+    go false e = rw (ne-eqb m 2 n2) (sym (List·getD-eq-default monthDays 0 (over (eqb-false m 0 e))))
 
 -- ---- a date that exists
 module _ (d : Date) where

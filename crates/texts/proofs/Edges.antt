@@ -7,9 +7,10 @@ use Prim.Native.Nat.{ℕ}
 use Prim.Native.String.{String}
 use lib.Dec.{eqb}
 use Rattle.tokens.specs.Text.{ascii, within}
+use Rattle.tokens.specs.Lists.{all}
 use Rattle.decode.specs.Same.{same}
 use Rattle.datatypes.specs.Datatypes.{datatypes, twelve}
-use Rattle.texts.specs.Texts.{all, codeOf}
+use Rattle.texts.specs.Texts.{codeOf}
 use Rattle.texts.specs.Lookup.{place}
 use Rattle.texts.specs.Form.{nameByte, spaceByte, space, rest, formOk}
 use Rattle.texts.specs.Datetimes.{Moment, pairOf, markAfter, pairThen, dateOf, clockOf, zoned, leadingDigits, fractionOf, leap, monthDays, lastDay, dateOk, clockOk, datetimeOf}

@@ -6,11 +6,11 @@ use mathlib.Core.Option.{Option, none, some}
 use Prim.Native.Nat.{ℕ}
 use lib.Dec.{eqb}
 use borrow.Author.Tests.{eq-eqb, ne-eqb}
+use Rattle.tokens.specs.Lists.{all}
 use Rattle.tokens.specs.Number.{digit}
 use Rattle.decode.specs.Decode.{stream}
 use Rattle.texts.specs.declared.NameForm.{NameForm}
 use Rattle.texts.specs.declared.NameForm.the-variants as F
-use Rattle.texts.specs.Texts.{all}
 use Rattle.texts.specs.Form.{nameByte, spaceByte, begun, space, rest, formOk, formOf, partAfter, pastSpace}
 
 -- ---- a text x, at its end or from its next byte on

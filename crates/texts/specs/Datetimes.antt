@@ -3,8 +3,9 @@ use mathlib.Core.Bool.{Bool, true, false, cond, not, _&&_, _||_}
 use mathlib.Core.List.{List, [], _∷_}
 use mathlib.Core.Option.{Option, none, some}
 use Prim.Native.Nat.{ℕ, _+_, _*_, _-_, _%_}
-use lib.ListN.{getD}
+use lib.ListN.{length, getD}
 use lib.Dec.{eqb, leb}
+use Rattle.tokens.specs.Text.{byte}
 use Rattle.tokens.specs.Number.{digit}
 use Rattle.decode.specs.Decode.{stream}
 use Rattle.texts.specs.declared.Date.{Date}
@@ -145,3 +146,20 @@ fractionSays s F.Bad = none
 abbrev pub datetimeSays : List ℕ → Datetime → Option Moment
 datetimeSays s (T.At d c at k) = some (record { date = d; clock = c; fraction = leadingDigits (stream s at k) })
 datetimeSays s T.Bad = none
+
+-- ---- for the code: a date and a time of day at a place of a text s, whose bytes stand for themselves
+unfoldable pub hasPair : List ℕ → ℕ → Bool
+hasPair s at = digit (byte s at) && digit (byte s (at + 1))
+
+unfoldable pub hasPairThen : ℕ → List ℕ → ℕ → Bool
+hasPairThen mark s at = hasPair s at && eqb (byte s (at + 2)) mark
+
+unfoldable pub pairAt : List ℕ → ℕ → ℕ
+pairAt s at = (byte s at - 0x30) * 10 + (byte s (at + 1) - 0x30)
+
+unfoldable pub hasDate : List ℕ → ℕ → Bool
+hasDate s at =
+    leb (at + 11) (length s) && hasPair s at && hasPairThen 0x2D s (at + 2) && hasPairThen 0x2D s (at + 5) && hasPairThen 0x54 s (at + 8)
+
+unfoldable pub hasClock : List ℕ → ℕ → Bool
+hasClock s at = leb (at + 8) (length s) && hasPairThen 0x3A s at && hasPairThen 0x3A s (at + 3) && hasPair s (at + 6)

@@ -5,9 +5,9 @@ use mathlib.Core.Option.{Option, none, some}
 use Prim.Native.Nat.{ℕ}
 use lib.Dec.{eqb}
 use Rattle.tokens.specs.Text.{within}
+use Rattle.tokens.specs.Lists.{all}
 use Rattle.tokens.specs.Number.{digit}
 use Rattle.decode.specs.Decode.{stream}
-use Rattle.texts.specs.Texts.{all}
 use Rattle.texts.specs.declared.NameForm.{NameForm}
 use Rattle.texts.specs.declared.NameForm.the-variants as F
 

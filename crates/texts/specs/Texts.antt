@@ -1,8 +1,8 @@
 -- Texts that document 01 judges decoded: "Names, and the texts of datatype, version and datetime, are judged after escapes are
 -- decoded". A name is handed over raw, between its quotes; a value as the part of the text that holds it, with its quotes.
-use mathlib.Core.Bool.{Bool, true, _&&_}
-use mathlib.Core.List.{List, [], _∷_}
-use Prim.Native.Nat.{ℕ, _+_, _*_, _-_}
+use mathlib.Core.Bool.{Bool}
+use mathlib.Core.List.{List}
+use Prim.Native.Nat.{ℕ}
 use Rattle.tokens.specs.Text.{ascii}
 use Rattle.decode.specs.Decode.{decodedFrom}
 use Rattle.decode.specs.Same.{same}
@@ -14,15 +14,6 @@ nameText raw = decodedFrom raw 0
 
 abbrev pub valueText : List ℕ → List ℕ
 valueText p = decodedFrom p 1
-
-unfoldable pub all : (ℕ → Bool) → List ℕ → Bool
-all good [] = true
-all good (b ∷ l) = good b && all good l
-
--- the number that digits write, after those that make n
-unfoldable pub numberFrom : ℕ → List ℕ → ℕ
-numberFrom n [] = n
-numberFrom n (b ∷ l) = numberFrom (n * 10 + (b - 0x30)) l
 
 -- refusal 8: "`core:version` is not `1.0.0`"
 abbrev pub versionOk : List ℕ → Bool

@@ -1,8 +1,13 @@
 ghost use mathlib.Core.Path.{_≡_};
-ghost use Rattle.decode.specs.Decode.{stream};
+ghost use mathlib.Core.Bool.{true};
+ghost use Prim.Native.Nat.{_+_, _≤_};
+ghost use lib.ListN.{length};
+ghost use lib.Dec.{leb};
+ghost use Rattle.decode.specs.Decode.{stream, streamed};
 ghost use Rattle.texts.specs.Texts.{valueText};
 ghost use Rattle.texts.specs.Datetimes.{pairOf, pairThen, dateOf, clockOf, isEmpty, startsDigit, zoned, fractionOf, leap, lastDay, dateOk, clockOk, datetimeOf};
 ghost use Rattle.texts.specs.Datetimes.{pairSays, dateSays, clockSays, fractionSays, datetimeSays};
+ghost use Rattle.texts.specs.Datetimes.{hasPair, hasPairThen, pairAt, hasDate, hasClock};
 use crate::Clock;
 use crate::ClockRead;
 use crate::Date;
@@ -12,18 +17,63 @@ use crate::Fraction;
 use crate::Pair;
 use decode::Stream;
 use decode::next_byte;
+use tokens::blocks::has_room;
 use tokens::is_within;
+use tokens::peek;
+
+// The next decoded byte, quickly where it stands for itself. The bytes of a datetime lie between these two.
+fn next(s: &[u8], at: usize, k: usize) -> Stream
+    ensures { λ r. ⌜ streamed (now (s .entry)) r ≡ stream (now (s .entry)) at k ⌝ }
+{
+    if k == 0 {
+        let b = peek(s, at);
+        if is_within(b'-', b'Z', b) {
+            return Stream::Next(b, at + 1, 0);
+        }
+    }
+    next_byte(s, at, k)
+}
+
+// Two digits stand at a place.
+fn has_pair(s: &[u8], at: usize) -> bool
+    requires { ⌜ at + 2 ≤ length (now s) ⌝ }
+    ensures { λ r. ⌜ r ≡ hasPair (now (s .entry)) at ⌝ }
+{
+    if is_within(b'0', b'9', s[at]) {
+        return is_within(b'0', b'9', s[at + 1]);
+    }
+    false
+}
+
+// Two digits and a mark stand at a place.
+fn has_pair_then(s: &[u8], at: usize, mark: u8) -> bool
+    requires { ⌜ at + 3 ≤ length (now s) ⌝ }
+    ensures { λ r. ⌜ r ≡ hasPairThen mark (now (s .entry)) at ⌝ }
+{
+    if has_pair(s, at) {
+        return s[at + 2] == mark;
+    }
+    false
+}
+
+// The number of two digits at a place.
+fn pair_at(s: &[u8], at: usize) -> u64
+    requires { ⌜ hasPair (now s) at ≡ true ⌝ }
+    ensures { λ r. ⌜ r ≡ pairAt (now (s .entry)) at ⌝ }
+{
+    (s[at] - b'0') as u64 * 10 + (s[at + 1] - b'0') as u64
+}
 
 // Two digits from a place on.
 pub(crate) fn pair(s: &[u8], at: usize, k: usize) -> Pair
     ensures { λ r. ⌜ pairSays (now (s .entry)) r ≡ pairOf (stream (now (s .entry)) at k) ⌝ }
 {
-    let g = next_byte(s, at, k);
+    let g = next(s, at, k);
     let Stream::Next(a, i, l) = g else {
         return Pair::Bad;
     };
     if is_within(b'0', b'9', a) {
-        let h = next_byte(s, i, l);
+        let h = next(s, i, l);
         let Stream::Next(b, m, n) = h else {
             return Pair::Bad;
         };
@@ -43,7 +93,7 @@ pub(crate) fn pair_then(s: &[u8], at: usize, k: usize, mark: u8) -> Pair
     let Pair::Value(v, i, l) = r else {
         return Pair::Bad;
     };
-    let g = next_byte(s, i, l);
+    let g = next(s, i, l);
     let Stream::Next(b, m, n) = g else {
         return Pair::Bad;
     };
@@ -53,8 +103,45 @@ pub(crate) fn pair_then(s: &[u8], at: usize, k: usize, mark: u8) -> Pair
     Pair::Bad
 }
 
+// YYYY-MM-DDT stands at a place, each byte for itself.
+fn has_date(s: &[u8], at: usize) -> bool
+    ensures { λ r. ⌜ r ≡ hasDate (now (s .entry)) at ⌝ }
+{
+    if has_room(s, at, 11) {
+        if has_pair(s, at) {
+            if has_pair_then(s, at + 2, b'-') {
+                if has_pair_then(s, at + 5, b'-') {
+                    return has_pair_then(s, at + 8, b'T');
+                }
+                return false;
+            }
+            return false;
+        }
+        return false;
+    }
+    false
+}
+
 // YYYY-MM-DDT
 pub(crate) fn date(s: &[u8], at: usize) -> DateRead
+    ensures { λ r. ⌜ dateSays (now (s .entry)) r ≡ dateOf (stream (now (s .entry)) at 0) ⌝ }
+{
+    if has_date(s, at) {
+        return DateRead::At(
+            Date {
+                year: pair_at(s, at) * 100 + pair_at(s, at + 2),
+                month: pair_at(s, at + 5),
+                day: pair_at(s, at + 8),
+            },
+            at + 11,
+            0,
+        );
+    }
+    decoded_date(s, at)
+}
+
+// The same, decoded.
+fn decoded_date(s: &[u8], at: usize) -> DateRead
     ensures { λ r. ⌜ dateSays (now (s .entry)) r ≡ dateOf (stream (now (s .entry)) at 0) ⌝ }
 {
     let p = pair(s, at, 0);
@@ -84,8 +171,45 @@ pub(crate) fn date(s: &[u8], at: usize) -> DateRead
     )
 }
 
+// HH:MM:SS stands at a place, each byte for itself.
+fn has_clock(s: &[u8], at: usize) -> bool
+    ensures { λ r. ⌜ r ≡ hasClock (now (s .entry)) at ⌝ }
+{
+    if has_room(s, at, 8) {
+        if has_pair_then(s, at, b':') {
+            if has_pair_then(s, at + 3, b':') {
+                return has_pair(s, at + 6);
+            }
+            return false;
+        }
+        return false;
+    }
+    false
+}
+
 // HH:MM:SS
 pub(crate) fn clock(s: &[u8], at: usize, k: usize) -> ClockRead
+    ensures { λ r. ⌜ clockSays (now (s .entry)) r ≡ clockOf (stream (now (s .entry)) at k) ⌝ }
+{
+    if k == 0 {
+        if has_clock(s, at) {
+            return ClockRead::At(
+                Clock {
+                    hour: pair_at(s, at),
+                    minute: pair_at(s, at + 3),
+                    second: pair_at(s, at + 6),
+                },
+                at + 8,
+                0,
+            );
+        }
+        return decoded_clock(s, at, k);
+    }
+    decoded_clock(s, at, k)
+}
+
+// The same, decoded.
+fn decoded_clock(s: &[u8], at: usize, k: usize) -> ClockRead
     ensures { λ r. ⌜ clockSays (now (s .entry)) r ≡ clockOf (stream (now (s .entry)) at k) ⌝ }
 {
     let p = pair_then(s, at, k, b':');
@@ -114,7 +238,7 @@ pub(crate) fn clock(s: &[u8], at: usize, k: usize) -> ClockRead
 pub(crate) fn is_end(s: &[u8], at: usize, k: usize) -> bool
     ensures { λ r. ⌜ r ≡ isEmpty (stream (now (s .entry)) at k) ⌝ }
 {
-    let g = next_byte(s, at, k);
+    let g = next(s, at, k);
     let Stream::Next(b, m, n) = g else {
         return true;
     };
@@ -124,7 +248,7 @@ pub(crate) fn is_end(s: &[u8], at: usize, k: usize) -> bool
 pub(crate) fn begins_digit(s: &[u8], at: usize, k: usize) -> bool
     ensures { λ r. ⌜ r ≡ startsDigit (stream (now (s .entry)) at k) ⌝ }
 {
-    let g = next_byte(s, at, k);
+    let g = next(s, at, k);
     let Stream::Next(b, m, n) = g else {
         return false;
     };
@@ -138,7 +262,7 @@ pub(crate) fn is_zoned(s: &[u8], at: usize, k: usize) -> bool
     let mut i = at;
     let mut j = k;
     loop {
-        let g = next_byte(s, i, j);
+        let g = next(s, i, j);
         let Stream::Next(b, m, n) = g else {
             return false;
         };
@@ -158,7 +282,7 @@ pub(crate) fn is_zoned(s: &[u8], at: usize, k: usize) -> bool
 pub(crate) fn fraction(s: &[u8], at: usize, k: usize) -> Fraction
     ensures { λ r. ⌜ fractionSays (now (s .entry)) r ≡ fractionOf (stream (now (s .entry)) at k) ⌝ }
 {
-    let g = next_byte(s, at, k);
+    let g = next(s, at, k);
     let Stream::Next(b, m, n) = g else {
         return Fraction::Bad;
     };
@@ -192,8 +316,6 @@ pub(crate) fn is_leap(y: u64) -> bool
     false
 }
 
-const MONTH_DAYS: [u64; 13] = [0, 31, 28, 31, 30, 31, 30, 31, 31, 30, 31, 30, 31];
-
 // The last day of a month; 0 if there is no such month.
 pub(crate) fn last_day(y: u64, m: u64) -> u64
     ensures { λ r. ⌜ r ≡ lastDay y m ⌝ }
@@ -204,11 +326,20 @@ pub(crate) fn last_day(y: u64, m: u64) -> u64
         }
         return 28;
     }
-    if m < 13 {
-        let i = m as usize;
-        return MONTH_DAYS[i];
+    match m {
+        1 => 31,
+        3 => 31,
+        4 => 30,
+        5 => 31,
+        6 => 30,
+        7 => 31,
+        8 => 31,
+        9 => 30,
+        10 => 31,
+        11 => 30,
+        12 => 31,
+        _ => 0,
     }
-    0
 }
 
 pub(crate) fn is_date(d: Date) -> bool

@@ -1,6 +1,7 @@
 ghost use mathlib.Core.Path.{_≡_};
+ghost use Rattle.tokens.specs.Lists.{all};
 ghost use Rattle.decode.specs.Decode.{stream};
-ghost use Rattle.texts.specs.Texts.{all, nameText};
+ghost use Rattle.texts.specs.Texts.{nameText};
 ghost use Rattle.texts.specs.Form.{nameByte, spaceByte, begun, space, pastSpace, partAfter, formOf};
 use crate::NameForm;
 use decode::Stream;

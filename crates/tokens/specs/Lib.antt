@@ -3,3 +3,5 @@ pub mod Text
 pub mod String
 pub mod Number
 pub mod Group
+pub mod Blocks
+pub mod Lists

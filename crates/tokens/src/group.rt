@@ -16,7 +16,7 @@ impl Cursor {
         let at = c.at;
         let b = peek(s, at);
         if b == b',' {
-            let d = Cursor { at: at + 1 }.skip_blanks(s);
+            let d = Cursor { at: at + 1 }.skip_indent(s);
             return After::Item(d);
         }
         if b == close {

@@ -1,4 +1,5 @@
 // The tokens of a JSON text. A cursor by value moves past blanks, or past one token, and returns the next cursor.
+pub mod blocks;
 mod group;
 mod number;
 mod string;
@@ -7,6 +8,7 @@ ghost use mathlib.Core.Path.{_≡_};
 ghost use Prim.Native.Nat.{ℕ, _<_};
 ghost use lib.ListN.{getD};
 ghost use Rattle.tokens.specs.Text.{within, blank, skipBlanks, byteWithin, literalAt};
+use crate::blocks::skip_spaces;
 
 // A place in a text.
 pub struct Cursor {
@@ -87,6 +89,19 @@ impl Cursor {
             i += 1;
         }
         Cursor { at: i }
+    }
+
+    // The same, quickly past a line feed and the spaces that begin the next line.
+    pub fn skip_indent(self, s: &[u8]) -> Cursor
+        ensures { λ r. ⌜ r .at ≡ skipBlanks (now (s .entry)) (self .at) ⌝ }
+    {
+        let at = self.at;
+        let b = peek(s, at);
+        if b == b'\n' {
+            let i = skip_spaces(s, at + 1);
+            return Cursor { at: i }.skip_blanks(s);
+        }
+        self.skip_blanks(s)
     }
 
     // One byte from lo to hi.

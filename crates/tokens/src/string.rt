@@ -4,6 +4,7 @@ ghost use Rattle.tokens.specs.String.{twoBytes, threeBytes, multibyteAt,
 use crate::Cursor;
 use crate::Hex4;
 use crate::Read;
+use crate::blocks::skip_plain;
 use crate::code_within;
 use crate::is_within;
 use crate::peek;
@@ -210,7 +211,7 @@ impl Cursor {
     pub fn string(self, s: &[u8]) -> Read
         ensures { λ r. ⌜ r ≡ stringAt (now (s .entry)) (self .at) ⌝ }
     {
-        let mut i = self.at;
+        let mut i = skip_plain(s, self.at);
         loop {
             let b = peek(s, i);
             if b == b'"' {

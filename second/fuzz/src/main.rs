@@ -1,50 +1,54 @@
 //! Compares the proved functions with the second program on fresh random and mutated cases, for as long as it is told.
 
+#[path = "../../../crates/export/export.rs"]
+mod export;
+#[path = "../../../crates/export_listing/export_listing.rs"]
+mod export_listing;
+
+use export::{Answer, Summary};
+use export_listing::Labelled;
 use second::frames::{write_frames, Case};
 use second::json_random::mutate;
-use second::reading_case::ReadingCase;
+use second::listing::{label, listing};
+use second::listing_case::{ListingCase, LISTING};
 use second::rng::Rng;
-use second::table::{copy, Table};
-use second::table_case::{summary_numbers, TableCase, COPY};
+use second::steps::{State, Step};
+use second::steps_case::StepsCase;
+use second::table::{copy, cut, locate, pieces, Table, Written};
+use second::table_case::{summary_numbers, TableCase, COPY, CUT, LOCATE, PIECES};
 use second::words::{byte_memory, dataset_bytes, memory};
-use second::{json_answers, json_random, reading_answers, reading_random, table_random};
+use second::{json_answers, json_random, listing_random, reading_answers, reading_random, steps_answers, steps_random, table_random};
 use std::process::ExitCode;
 use std::time::{Duration, Instant};
 
-#[repr(C)]
-struct Summary([u64; 12]);
+/// A kind of case: a fresh one is answered by both programs, and handed back where they disagree.
+type Compare = fn(&mut Rng) -> Result<(), Case>;
 
-#[repr(C)]
-struct Copied {
-    refusal: u64,
-    count: u64,
+const KINDS: [(&str, Compare); 5] =
+    [("json", json), ("reading", reading), ("tables", tables), ("listings", listings), ("steps", steps)];
+
+fn agree(same: bool, case: Case) -> Result<(), Case> {
+    if same {
+        Ok(())
+    } else {
+        Err(case)
+    }
 }
 
-extern "C" {
-    fn json_judge(text: *const u8, len: usize) -> u32;
-    fn recording_read(
-        text: *const u8,
-        len: usize,
-        d: u64,
-        rows: *mut u64,
-        rows_len: usize,
-        notes: *mut u64,
-        notes_len: usize,
-    ) -> Summary;
-    fn table_copy(
-        t: *const u64,
-        t_len: usize,
-        caps: *const u64,
-        caps_len: usize,
-        notes: *const u64,
-        notes_len: usize,
-        bytes: *const u8,
-        bytes_len: usize,
-        a: u64,
-        b: u64,
-        out: *mut u8,
-        out_len: usize,
-    ) -> Copied;
+/// The second program's summary as the exported functions have it.
+fn numbers(summary: &second::table::Summary) -> Summary {
+    let [refusal, datatype, channels, width, offset, trailing, samples, size, captures, annotations, rate, ratelen] =
+        summary_numbers(summary);
+    Summary { refusal, datatype, channels, width, offset, trailing, samples, size, captures, annotations, rate, ratelen }
+}
+
+/// A table lent to the exported functions.
+fn lent<'a>(table: &Table<'a>) -> export::Table<'a> {
+    export::Table { summary: numbers(table.summary), captures: table.captures, annotations: table.annotations }
+}
+
+fn answer(written: Written) -> Answer {
+    Answer { refusal: written.refusal, number: written.count }
 }
 
 /// A JSON text, judged by both.
@@ -56,98 +60,134 @@ fn json(rng: &mut Rng) -> Result<(), Case> {
         }
     };
     let expected = json_answers::answer(&case).and_then(|line| line.split(' ').nth(1)?.parse().ok());
-    // SAFETY: the pointer and the length are those of a slice, which is only read.
-    let found = unsafe { json_judge(case.payload.as_ptr(), case.payload.len()) };
-    if expected == Some(found) { Ok(()) } else { Err(case) }
+    agree(expected == Some(export::json_judge(&case.payload)), case)
 }
 
 /// A recording, mutated or not, read by both, with the lent memory afterwards.
 fn reading(rng: &mut Rng) -> Result<(), Case> {
-    let mut case: ReadingCase = reading_random::random_case(rng);
+    let mut case = reading_random::random_case(rng);
     if rng.once_in(2) {
         mutate(rng, &mut case.text);
     }
     let (summary, captures, annotations) = reading_answers::result(&case);
     let (mut rows, mut notes) = (memory(case.captures), memory(case.annotations));
-    // SAFETY: the pointers and the lengths are those of slices that don't overlap.
-    let found = unsafe {
-        recording_read(
-            case.text.as_ptr(),
-            case.text.len(),
-            case.dataset,
-            rows.as_mut_ptr(),
-            rows.len(),
-            notes.as_mut_ptr(),
-            notes.len(),
-        )
-    };
-    if found.0 == summary_numbers(&summary) && rows == captures && notes == annotations {
-        Ok(())
-    } else {
-        Err(case.frame())
+    let found = export::recording_read(&case.text, case.dataset, &mut rows, &mut notes);
+    agree((found, rows, notes) == (numbers(&summary), captures, annotations), case.frame())
+}
+
+/// A sample's place, the pieces, the cut or the copy of a range of an honest or forged table by both, with the lent memory afterwards.
+fn tables(rng: &mut Rng) -> Result<(), Case> {
+    let case = table_random::random_case(rng);
+    let table = Table { summary: &case.summary, captures: &case.captures, annotations: &case.annotations };
+    agree(same_answer(&case, &table, &lent(&table)), case.frame())
+}
+
+fn same_answer(case: &TableCase, table: &Table, t: &export::Table) -> bool {
+    let (a, b, sizes) = (case.a, case.b, &case.sizes);
+    match case.operation {
+        PIECES => {
+            let (mut one, mut other) = (memory(sizes[0]), memory(sizes[0]));
+            answer(pieces(table, a, b, &mut one)) == t.pieces(a, b, &mut other) && one == other
+        }
+        CUT => {
+            let mut one = (memory(sizes[0]), memory(sizes[1]));
+            let mut other = one.clone();
+            let summary = cut(table, a, b, &mut one.0, &mut one.1);
+            numbers(&summary) == t.cut(a, b, &mut other.0, &mut other.1) && one == other
+        }
+        COPY => {
+            let bytes = dataset_bytes(sizes[0]);
+            let (mut one, mut other) = (byte_memory(sizes[1]), byte_memory(sizes[1]));
+            answer(copy(table, &bytes, a, b, &mut one)) == t.copy(&bytes, a, b, &mut other) && one == other
+        }
+        // Whether a table is well formed is not exported; the place of its first sample tells.
+        _ => {
+            let i = if case.operation == LOCATE { a } else { table.summary.offset };
+            let place = locate(table, i);
+            Answer { refusal: place.refusal, number: place.byte } == t.locate(i)
+        }
     }
 }
 
-/// A copy of a range of an honest or forged table's samples by both, with the lent output afterwards.
-fn copies(rng: &mut Rng) -> Result<(), Case> {
-    let case: TableCase = loop {
-        let case = table_random::random_case(rng);
-        if case.operation == COPY {
+/// A label, or the listing, of a table and its metadata by both, with the lent output afterwards.
+fn listings(rng: &mut Rng) -> Result<(), Case> {
+    let case = loop {
+        if let Some(case) = ListingCase::read(&listing_random::random_case(rng)) {
             break case;
         }
     };
-    let table = Table { summary: &case.summary, captures: &case.captures, annotations: &case.annotations };
-    let bytes = dataset_bytes(case.sizes[0]);
-    let (mut output, mut out) = (byte_memory(case.sizes[1]), byte_memory(case.sizes[1]));
-    let written = copy(&table, &bytes, case.a, case.b, &mut output);
-    let numbers = summary_numbers(&case.summary);
-    // SAFETY: the pointers and the lengths are those of slices that don't overlap.
-    let found = unsafe {
-        table_copy(
-            numbers.as_ptr(),
-            numbers.len(),
-            case.captures.as_ptr(),
-            case.captures.len(),
-            case.annotations.as_ptr(),
-            case.annotations.len(),
-            bytes.as_ptr(),
-            bytes.len(),
-            case.a,
-            case.b,
-            out.as_mut_ptr(),
-            out.len(),
-        )
-    };
-    if (found.refusal, found.count) == (written.refusal, written.count) && out == output {
-        Ok(())
+    let (table, text) = (case.table(), &case.metadata);
+    let same = if case.letter == LISTING {
+        let (mut one, mut other) = (byte_memory(case.number), byte_memory(case.number));
+        answer(listing(&table, text, &mut one)) == lent(&table).listing(text, &mut other) && one == other
     } else {
-        Err(case.frame())
+        let expected = label(&table, text, case.number);
+        let Labelled { refusal, present, label, labellen } = lent(&table).label(text, case.number);
+        let part = text.get(label as usize..(label + labellen) as usize);
+        (refusal, present, part) == (expected.refusal, u64::from(expected.present), Some(expected.part))
+    };
+    agree(same, case.frame())
+}
+
+/// Cuts and copies one after the other, refused ones included, by both.
+fn steps(rng: &mut Rng) -> Result<(), Case> {
+    let case: StepsCase = steps_random::random_case(rng);
+    let (expected, last) = steps_answers::run(&case);
+    let (mut state, mut summary) = (case.state.clone(), numbers(&case.state.summary));
+    let refusals: Vec<u64> = case.steps.iter().map(|step| take(&mut state, &mut summary, step)).collect();
+    let same = refusals == expected
+        && summary == numbers(&last.summary)
+        && (state.captures, state.annotations, state.dataset) == (last.captures, last.annotations, last.dataset);
+    agree(same, case.frame())
+}
+
+/// One step by the exported functions: the refusal of the cut, or else that of the copy.
+fn take(state: &mut State, summary: &mut Summary, step: &Step) -> u64 {
+    let table = export::Table { summary: *summary, captures: &state.captures, annotations: &state.annotations };
+    let (mut captures, mut annotations) = (vec![0; step.capture_room], vec![0; step.annotation_room]);
+    let mut output = vec![0; step.byte_room];
+    let part = table.cut(step.a, step.b, &mut captures, &mut annotations);
+    let copied = table.copy(&state.dataset, step.a, step.b, &mut output);
+    if part.refusal == 0 && copied.refusal == 0 {
+        output.truncate(copied.number as usize);
+        *summary = part;
+        *state = State { summary: state.summary, captures, annotations, dataset: output };
+    }
+    if part.refusal == 0 {
+        copied.refusal
+    } else {
+        part.refusal
     }
 }
 
+/// How many cases of each kind agreed.
+fn counted(counts: &[u64]) -> String {
+    let words: Vec<String> = KINDS.iter().zip(counts).map(|((name, _), n)| format!("{name} {n}")).collect();
+    words.join(", ")
+}
+
 fn run(minutes: u64, seed: u64) -> ExitCode {
-    let kinds: [(&str, fn(&mut Rng) -> Result<(), Case>); 3] = [("json", json), ("reading", reading), ("copies", copies)];
     let mut rng = Rng::new(seed);
-    let mut counts = [0u64; 3];
+    let mut counts = [0u64; KINDS.len()];
     let (start, mut said) = (Instant::now(), Instant::now());
     while start.elapsed() < Duration::from_secs(60 * minutes) {
-        for (k, (name, compare)) in kinds.iter().enumerate() {
+        for (count, (name, compare)) in counts.iter_mut().zip(KINDS) {
             for _ in 0..100 {
                 if let Err(case) = compare(&mut rng) {
-                    let file = format!("disagreement-{name}-{seed}-{}", counts[k]);
+                    let file = format!("disagreement-{name}-{seed}-{count}");
                     let stored = std::fs::write(&file, write_frames(&[case]));
                     eprintln!("{name}: the programs disagree; the case is in {file} ({stored:?})");
                     return ExitCode::FAILURE;
                 }
-                counts[k] += 1;
+                *count += 1;
             }
         }
         if said.elapsed() > Duration::from_secs(10) {
             said = Instant::now();
-            println!("{} s: json {}, reading {}, copies {}", start.elapsed().as_secs(), counts[0], counts[1], counts[2]);
+            println!("{} s: {}", start.elapsed().as_secs(), counted(&counts));
         }
     }
-    println!("no disagreement: seed {seed}, {minutes} minutes, json {}, reading {}, copies {}", counts[0], counts[1], counts[2]);
+    println!("no disagreement: seed {seed}, {minutes} minutes, {}", counted(&counts));
     ExitCode::SUCCESS
 }
 

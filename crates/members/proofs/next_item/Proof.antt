@@ -14,11 +14,11 @@ peek-requires c κs = search needs
 add-t9 : tie.Need-add-t9
 add-t9 c = omega (arith, inside (c .before .before .before .before .args .s .now) (c .before .before .skip-blanks .result .at) _ (c .before .peek .ensures) (omega arith))
 
-skip-blanks-requires-2 : tie.Need-skip-blanks-requires-2
-skip-blanks-requires-2 c κs = search needs
+skip-indent-requires : tie.Need-skip-indent-requires
+skip-indent-requires c κs = search needs
 
 returns : tie.Need-returns
-returns c = next-comma _ _ _ _ (c .before .before .before .skip-blanks .ensures) (c .before .before .peek .ensures) _ (c .before .if1 .taken) (c .skip-blanks2 .ensures)
+returns c = next-comma _ _ _ _ (c .before .before .before .skip-blanks .ensures) (c .before .before .peek .ensures) _ (c .before .if1 .taken) (c .skip-indent .ensures)
 
 returns-2 : tie.Need-returns-2
 returns-2 c = next-close _ _ _ _ (c .before .before .skip-blanks .ensures) (c .before .peek .ensures) (c .if1 .left)
@@ -26,4 +26,4 @@ returns-2 c = next-close _ _ _ _ (c .before .before .skip-blanks .ensures) (c .b
 pub next-item-spec : {M : Type 1} → statement M
 next-item-spec =
     tie.close
-    (tie.spec skip-blanks-requires peek-requires add-t9 skip-blanks-requires-2 returns returns-2)
+    (tie.spec skip-blanks-requires peek-requires add-t9 skip-indent-requires returns returns-2)

@@ -1,32 +1,20 @@
-use native.Mathlib.Omega.{arith}
-use Prim.Native.Nat.{_+_}
-use Rattle.tokens.proofs.TextLaws.{inside}
-use Rattle.members.proofs.WalkLaws.{member-none, member-bare, member-found}
-use Rattle.grammar.proofs.SkipLaws.{quoted-onward}
+use mathlib.Core.Path.{sym, _∙_}
+use Rattle.members.proofs.WalkLaws.{member-unnamed, member-named}
 use borrow.Author.Needs.{needs}
 use Rattle.members.proofs.next_member.Statement.{statement}
 use Rattle.members.proofs.next_member.Tie as tie
 
-peek-requires : tie.Need-peek-requires
-peek-requires c κs = search needs
+next-name-requires : tie.Need-next-name-requires
+next-name-requires c κs = search needs
 
-add-skip-string : tie.Need-add-skip-string
-add-skip-string c = omega (arith, inside (c .before .before .before .args .s .now) (c .before .before .before .args .at) _ (c .before .peek .ensures) (omega arith))
-
-skip-string-requires : tie.Need-skip-string-requires
-skip-string-requires c κs = search needs
-
-colon-requires : tie.Need-colon-requires
-colon-requires c κs = search needs
-
-enum-known-r : tie.Need-enum-known-r
-enum-known-r c = search needs
+enum-known-g : tie.Need-enum-known-g
+enum-known-g c = search needs
 
 enum-told : tie.Need-enum-told
 enum-told c = search needs
 
 returns : tie.Need-returns
-returns c = member-bare _ _ _ (c .before .before .before .before .before .peek .ensures) (c .before .before .before .before .if1 .taken) _ (c .before .before .before .skip-string .ensures) _ (c .before .before .colon .ensures) (c .enum-told .given .1)
+returns c = member-unnamed _ _ (sym (c .before .before .next-name .ensures) ∙ (c .enum-told .given .1))
 
 skip-value-requires : tie.Need-skip-value-requires
 skip-value-requires c κs = search needs
@@ -34,32 +22,17 @@ skip-value-requires c κs = search needs
 next-item-requires : tie.Need-next-item-requires
 next-item-requires c κs = search needs
 
-add-t11 : tie.Need-add-t11
-add-t11 c = omega (arith, inside (c .before .before .before .before .before .before .before .before .before .before .args .s .now) (c .before .before .before .before .before .before .before .before .before .before .args .at) _ (c .before .before .before .before .before .before .before .before .peek .ensures) (omega arith))
-
-sub-t13 : tie.Need-sub-t13
-sub-t13 c = omega (arith, (c .before .before .before .before .before .before .skip-string .ensures), quoted-onward (c .before .before .before .before .before .before .before .before .before .before .args .s .now) ((c .before .before .before .before .before .before .before .before .before .before .args .at) + 1))
-
 returns-2 : tie.Need-returns-2
-returns-2 c = member-found _ _ _ (c .before .before .before .before .before .before .before .before .peek .ensures) (c .before .before .before .before .before .before .before .if1 .taken) _ (c .before .before .before .before .before .before .skip-string .ensures) _ (c .before .before .before .before .before .colon .ensures) _ (c .before .before .before .r .given .1) _ _ (c .before .skip-value .ensures) (c .next-item .ensures)
-
-returns-3 : tie.Need-returns-3
-returns-3 c = member-none _ _ _ (c .before .peek .ensures) (c .if1 .left)
+returns-2 c = member-named _ _ _ (sym (c .before .before .before .before .before .next-name .ensures) ∙ (c .before .before .before .g .given .1)) _ _ (c .before .skip-value .ensures) (c .next-item .ensures)
 
 pub next-member-spec : {M : Type 1} → statement M
 next-member-spec =
     tie.close
     (tie.spec
-    peek-requires
-    add-skip-string
-    skip-string-requires
-    colon-requires
-    enum-known-r
+    next-name-requires
+    enum-known-g
     enum-told
     returns
     skip-value-requires
     next-item-requires
-    add-t11
-    sub-t13
-    returns-2
-    returns-3)
+    returns-2)

@@ -1,25 +1,15 @@
 use borrow.Author.Needs.{needs}
 use native.Mathlib.Omega.{arith}
-use lib.ListN.{length, getD, drop}
-use Prim.Native.Nat.{ℕ, _≤_, _<_, _-_, _+_, _*_}
-use mathlib.Core.Path.{_≡_, refl, sym, ap, _∙_}
-use borrow.Author.Needs.{needs}
-use native.Mathlib.Omega.{arith}
-use mathlib.Core.Path.{_≡_, refl, sym, _∙_}
+use Prim.Native.Nat.{_≤_, _-_, _+_}
+use mathlib.Core.Path.{_≡_, ap, _∙_}
 use mathlib.Core.Bool.{_&&_}
-use Prim.Native.Nat.{_≤_, _+_, _-_}
 use lib.Dec.{eqb}
 use Rattle.decode.specs.Plain.{alike}
 use Rattle.decode.proofs.PlainLaws.{alike-start, alike-on, alike-end}
-use mathlib.Core.Path.{ap}
 use mathlib.Core.Bool.{Bool}
 use Rattle.tokens.specs.Text.{byte}
 use Rattle.decode.proofs.alike.are_alike.Statement.{statement}
 use Rattle.decode.proofs.alike.are_alike.Tie as tie
-use Rattle.decode.proofs.alike.are_alike.Reads as reads
-use Rattle.decode.proofs.alike.are_alike.Lts as lts
-use Rattle.decode.proofs.alike.both.Reads as both-reads
-use Rattle.decode.proofs.alike.is_ordinary.Reads as is-ordinary-reads
 
 abbrev Inv-loop : tie.InvT-loop
 Inv-loop s i t j n ok₀ k₀ ok k = (k ≤ n) × ((ok && alike (n - k) s (i + k) t (j + k)) ≡ alike n s i t j)

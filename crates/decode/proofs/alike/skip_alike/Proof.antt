@@ -1,24 +1,14 @@
 use borrow.Author.Needs.{needs}
 use native.Mathlib.Omega.{arith}
-use lib.ListN.{length, getD, drop}
-use Prim.Native.Nat.{ℕ, _≤_, _<_, _-_, _+_, _*_}
-use mathlib.Core.Path.{_≡_, refl, sym, ap, _∙_}
-use borrow.Author.Needs.{needs}
-use native.Mathlib.Omega.{arith}
-use mathlib.Core.Path.{_≡_, refl, sym, _∙_}
 use lib.ListN.{length}
-use Prim.Native.Nat.{_-_}
+use Prim.Native.Nat.{_-_, _+_}
+use mathlib.Core.Path.{_≡_, refl, sym, _∙_}
 use Rattle.decode.specs.Decode.{decodedFrom}
 use Rattle.decode.specs.Same.{same}
 use Rattle.decode.proofs.PlainLaws.{all-alike}
 use borrow.Author.Tests.{leb-true}
-use Prim.Native.Nat.{_+_}
 use Rattle.decode.proofs.alike.skip_alike.Statement.{statement}
 use Rattle.decode.proofs.alike.skip_alike.Tie as tie
-use Rattle.decode.proofs.alike.skip_alike.Reads as reads
-use Rattle.decode.proofs.alike.skip_alike.Lts as lts
-use Rattle.decode.proofs.alike.are_alike.Reads as are-alike-reads
-use Rattle.decode.proofs.alike.has_room.Reads as has-room-reads
 
 abbrev Inv-loop : tie.InvT-loop
 Inv-loop s a t b n i₀ j₀ i j = same (decodedFrom s i) (decodedFrom t j) ≡ same (decodedFrom s a) (decodedFrom t b)

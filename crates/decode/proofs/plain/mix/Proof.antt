@@ -1,14 +1,8 @@
 use native.Mathlib.Omega.{arith}
-use lib.ListN.{length, getD, drop}
-use Prim.Native.Nat.{ℕ, _≤_, _<_, _-_, _+_, _*_}
-use mathlib.Core.Path.{_≡_, refl, sym, ap, _∙_}
-use native.Mathlib.Omega.{arith}
 use Rattle.decode.proofs.DecodeLaws.{key-fits}
 use borrow.Author.Needs.{needs}
 use Rattle.decode.proofs.plain.mix.Statement.{statement}
 use Rattle.decode.proofs.plain.mix.Tie as tie
-use Rattle.decode.proofs.plain.mix.Reads as reads
-use Rattle.decode.proofs.plain.mix.Lts as lts
 
 mul-result : tie.Need-mul-result
 mul-result c = omega (arith, key-fits (c .args .m) (c .args .h) 0 ((c .pre) .0) ((c .pre) .1) (omega arith))

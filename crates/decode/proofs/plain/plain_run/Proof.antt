@@ -2,9 +2,10 @@ use borrow.Author.Needs.{needs}
 use native.Mathlib.Omega.{arith}
 use lib.ListN.{length}
 use Prim.Native.Nat.{_-_}
-use mathlib.Core.Path.{refl, sym, _∙_}
+use mathlib.Core.Path.{sym, _∙_}
 use Rattle.decode.specs.Plain.{PlainRun}
-use Rattle.decode.proofs.PlainLaws.{plain-inside, run-more}
+use Rattle.tokens.proofs.BlockLaws.{plain-inside}
+use Rattle.decode.proofs.PlainLaws.{run-more}
 use Rattle.decode.proofs.plain.plain_run.Statement.{statement}
 use Rattle.decode.proofs.plain.plain_run.Tie as tie
 
@@ -14,8 +15,11 @@ Inv-loop s at h₀ i₀ h i = PlainRun s at (record { at = i; key = h })
 abbrev μ-loop : tie.MeasureT-loop
 μ-loop s at h₀ i₀ h i = length s - i
 
+plain-blocks-requires : tie.Need-plain-blocks-requires Inv-loop μ-loop
+plain-blocks-requires c κs = search needs
+
 loop-holds : tie.Need-loop-holds Inv-loop μ-loop
-loop-holds c = record { string = refl; key = refl; small = omega arith }
+loop-holds c = (c .plain-blocks .ensures)
 
 peek-requires : tie.Need-peek-requires Inv-loop μ-loop
 peek-requires c κs = search needs
@@ -27,13 +31,13 @@ mix-requires : tie.Need-mix-requires Inv-loop μ-loop
 mix-requires c κs = (omega arith, (c .before .before .before .loop .inv .small))
 
 add-i : tie.Need-add-i Inv-loop μ-loop
-add-i c = omega (arith, plain-inside (c .before .before .before .before .before .before .args .s .now) (c .before .before .before .before .loop .i) _ (c .before .before .before .peek .ensures) (sym (c .before .before .is-plain .ensures) ∙ (c .before .if1 .taken)))
+add-i c = omega (arith, plain-inside (c .before .before .before .before .before .before .before .args .s .now) (c .before .before .before .before .loop .i) _ (c .before .before .before .peek .ensures) (sym (c .before .before .is-plain .ensures) ∙ (c .before .if1 .taken)))
 
 loop-less : tie.Need-loop-less Inv-loop μ-loop
-loop-less c = omega (arith, plain-inside (c .before .before .before .before .before .before .args .s .now) (c .before .before .before .before .loop .i) _ (c .before .before .before .peek .ensures) (sym (c .before .before .is-plain .ensures) ∙ (c .before .if1 .taken)))
+loop-less c = omega (arith, plain-inside (c .before .before .before .before .before .before .before .args .s .now) (c .before .before .before .before .loop .i) _ (c .before .before .before .peek .ensures) (sym (c .before .before .is-plain .ensures) ∙ (c .before .if1 .taken)))
 
 loop-again : tie.Need-loop-again Inv-loop μ-loop
-loop-again c = run-more (c .before .before .before .before .before .before .args .s .now) (c .before .before .before .before .loop .i) _ (c .before .before .before .peek .ensures) (sym (c .before .before .is-plain .ensures) ∙ (c .before .if1 .taken)) _ _ (c .before .before .before .before .loop .inv) _ (c .mix .ensures) (omega (arith, (c .mix .ensures)))
+loop-again c = run-more (c .before .before .before .before .before .before .before .args .s .now) (c .before .before .before .before .loop .i) _ (c .before .before .before .peek .ensures) (sym (c .before .before .is-plain .ensures) ∙ (c .before .if1 .taken)) _ _ (c .before .before .before .before .loop .inv) _ (c .mix .ensures) (omega (arith, (c .mix .ensures)))
 
 returns : tie.Need-returns Inv-loop μ-loop
 returns c = (c .before .before .before .loop .inv)
@@ -44,6 +48,7 @@ plain-run-spec =
     (tie.spec
     Inv-loop
     μ-loop
+    plain-blocks-requires
     loop-holds
     peek-requires
     is-plain-requires

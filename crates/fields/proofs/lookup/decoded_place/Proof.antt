@@ -1,57 +1,42 @@
-use borrow.Author.Needs.{needs}
-use native.Mathlib.Omega.{arith}
-use lib.ListN.{drop}
-use Prim.Native.Nat.{_-_, _+_}
-use mathlib.Core.Path.{_≡_, sym, _∙_}
+use mathlib.Core.Path.{sym, ap, _∙_}
+use lib.Seq.{length-take-le}
 use Rattle.texts.specs.Lookup.{place}
-use Rattle.texts.proofs.LookupLaws.{place-over}
-use Rattle.fields.specs.Names.{coreOf, coreName}
-use Rattle.fields.proofs.NameLaws.{core-here, core-later}
 use Rattle.texts.specs.Texts.{nameText}
+use Rattle.fields.specs.Names.{coreOf, coreName}
+use Rattle.fields.proofs.NameLaws.{cut-place}
+use borrow.Author.Needs.{needs}
 use Rattle.fields.proofs.lookup.decoded_place.Statement.{statement}
 use Rattle.fields.proofs.lookup.decoded_place.Tie as tie
 
-abbrev Inv-loop : tie.InvT-loop
-Inv-loop kind raw n i₀ i = i + place coreName (drop i (coreOf kind)) (nameText raw) ≡ place coreName (coreOf kind) (nameText raw)
+slice-aggregate-put-decoded : tie.Need-slice-aggregate-put-decoded
+slice-aggregate-put-decoded c = search needs
 
-abbrev μ-loop : tie.MeasureT-loop
-μ-loop kind raw n i₀ i = n - i
+put-decoded-requires : tie.Need-put-decoded-requires
+put-decoded-requires c κs = search needs
 
-core-count-requires : tie.Need-core-count-requires Inv-loop μ-loop
-core-count-requires c κs = search needs
+array-share-prefix-text : tie.Need-array-share-prefix-text
+array-share-prefix-text c = search needs
 
-loop-holds : tie.Need-loop-holds Inv-loop μ-loop
-loop-holds c = search needs
+slice-aggregate-search : tie.Need-slice-aggregate-search
+slice-aggregate-search c = sym (length-take-le _ _ (c .before .before .put-decoded .ensures .0))
 
-decoded-is-requires : tie.Need-decoded-is-requires Inv-loop μ-loop
-decoded-is-requires c κs = omega (arith, (c .loop-test .taken), (c .before .before .core-count .ensures))
+search-requires : tie.Need-search-requires
+search-requires c κs = search needs
 
-returns : tie.Need-returns Inv-loop μ-loop
-returns c = core-here (coreOf (c .before .before .before .before .before .before .args .kind)) (c .before .before .before .loop .i) _ (omega (arith, (c .before .before .loop-test .taken), (c .before .before .before .before .core-count .ensures))) (sym (c .before .decoded-is .ensures) ∙ (c .if1 .taken)) ∙ (c .before .before .before .loop .inv)
-
-add-i : tie.Need-add-i Inv-loop μ-loop
-add-i c = search needs
-
-loop-less : tie.Need-loop-less Inv-loop μ-loop
-loop-less c = search needs
-
-loop-again : tie.Need-loop-again Inv-loop μ-loop
-loop-again c = core-later (coreOf (c .before .before .before .before .before .before .args .kind)) (c .before .before .before .loop .i) _ (omega (arith, (c .before .before .loop-test .taken), (c .before .before .before .before .core-count .ensures))) (sym (c .before .decoded-is .ensures) ∙ (c .if1 .left)) ∙ (c .before .before .before .loop .inv)
-
-returns-2 : tie.Need-returns-2 Inv-loop μ-loop
-returns-2 c = place-over coreName (coreOf (c .before .before .before .before .args .kind)) (c .before .loop .i) _ (omega (arith, (c .loop-test .left), (c .before .before .core-count .ensures))) ∙ (c .before .loop .inv)
+returns : tie.Need-returns
+returns c =
+    let entry = c .before .before .before .before .before .before in
+    (c .search .ensures)
+    ∙ ap (place coreName (coreOf (entry .args .kind))) (c .before .before .before .put-decoded .ensures .1 .1)
+    ∙ cut-place (entry .args .kind) (nameText (entry .args .raw .now))
 
 pub decoded-place-spec : {M : Type 1} → statement M
 decoded-place-spec =
     tie.close
     (tie.spec
-    Inv-loop
-    μ-loop
-    core-count-requires
-    loop-holds
-    decoded-is-requires
-    returns
-    add-i
-    loop-less
-    loop-again
-    returns-2)
+    slice-aggregate-put-decoded
+    put-decoded-requires
+    array-share-prefix-text
+    slice-aggregate-search
+    search-requires
+    returns)

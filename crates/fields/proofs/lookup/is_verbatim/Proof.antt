@@ -2,7 +2,7 @@ use borrow.Author.Needs.{needs}
 use lib.ListN.{length, drop}
 use Prim.Native.Nat.{_-_}
 use mathlib.Core.Path.{_≡_, refl, _∙_}
-use Rattle.texts.specs.Texts.{all}
+use Rattle.tokens.specs.Lists.{all}
 use Rattle.fields.specs.Names.{verbatim}
 use Rattle.fields.proofs.NameLaws.{verbatim-end, verbatim-slash, verbatim-quote, verbatim-on}
 use Rattle.fields.proofs.lookup.is_verbatim.Statement.{statement}

@@ -1,56 +1,47 @@
-use borrow.Author.Needs.{needs}
 use native.Mathlib.Omega.{arith}
-use lib.ListN.{drop}
-use Prim.Native.Nat.{_-_, _+_}
-use mathlib.Core.Path.{_≡_, sym, _∙_}
-use Rattle.texts.specs.Lookup.{place}
-use Rattle.texts.proofs.LookupLaws.{place-over}
-use Rattle.fields.specs.Names.{coreOf, coreName}
-use Rattle.fields.proofs.NameLaws.{core-here, core-later}
+use mathlib.Core.Path.{sym, _∙_}
+use Rattle.fields.proofs.NameLaws.{only-place}
+use borrow.Author.Needs.{needs}
 use Rattle.fields.proofs.lookup.raw_place.Statement.{statement}
 use Rattle.fields.proofs.lookup.raw_place.Tie as tie
 
-abbrev Inv-loop : tie.InvT-loop
-Inv-loop kind raw n i₀ i = i + place coreName (drop i (coreOf kind)) raw ≡ place coreName (coreOf kind) raw
+likely-requires : tie.Need-likely-requires
+likely-requires c κs = search needs
 
-abbrev μ-loop : tie.MeasureT-loop
-μ-loop kind raw n i₀ i = n - i
-
-core-count-requires : tie.Need-core-count-requires Inv-loop μ-loop
+core-count-requires : tie.Need-core-count-requires
 core-count-requires c κs = search needs
 
-loop-holds : tie.Need-loop-holds Inv-loop μ-loop
-loop-holds c = search needs
+is-field-requires : tie.Need-is-field-requires
+is-field-requires c κs = omega (arith, (c .if1 .taken), (c .before .core-count .ensures))
 
-raw-is-requires : tie.Need-raw-is-requires Inv-loop μ-loop
-raw-is-requires c κs = omega (arith, (c .loop-test .taken), (c .before .before .core-count .ensures))
+returns : tie.Need-returns
+returns c =
+    let entry = c .before .before .before .before .before .before in
+    only-place (entry .args .kind) (c .before .before .before .before .likely .result) (entry .args .raw .now)
+    (omega (arith, (c .before .before .if1 .taken), (c .before .before .before .core-count .ensures)))
+    (sym (c .before .is-field .ensures) ∙ (c .if2 .taken))
 
-returns : tie.Need-returns Inv-loop μ-loop
-returns c = core-here (coreOf (c .before .before .before .before .before .before .args .kind)) (c .before .before .before .loop .i) _ (omega (arith, (c .before .before .loop-test .taken), (c .before .before .before .before .core-count .ensures))) (sym (c .before .raw-is .ensures) ∙ (c .if1 .taken)) ∙ (c .before .before .before .loop .inv)
+search-requires : tie.Need-search-requires
+search-requires c κs = search needs
 
-add-i : tie.Need-add-i Inv-loop μ-loop
-add-i c = search needs
+returns-2 : tie.Need-returns-2
+returns-2 c = (c .search .ensures)
 
-loop-less : tie.Need-loop-less Inv-loop μ-loop
-loop-less c = search needs
+search-requires-2 : tie.Need-search-requires-2
+search-requires-2 c κs = search needs
 
-loop-again : tie.Need-loop-again Inv-loop μ-loop
-loop-again c = core-later (coreOf (c .before .before .before .before .before .before .args .kind)) (c .before .before .before .loop .i) _ (omega (arith, (c .before .before .loop-test .taken), (c .before .before .before .before .core-count .ensures))) (sym (c .before .raw-is .ensures) ∙ (c .if1 .left)) ∙ (c .before .before .before .loop .inv)
-
-returns-2 : tie.Need-returns-2 Inv-loop μ-loop
-returns-2 c = place-over coreName (coreOf (c .before .before .before .before .args .kind)) (c .before .loop .i) _ (omega (arith, (c .loop-test .left), (c .before .before .core-count .ensures))) ∙ (c .before .loop .inv)
+returns-3 : tie.Need-returns-3
+returns-3 c = (c .search2 .ensures)
 
 pub raw-place-spec : {M : Type 1} → statement M
 raw-place-spec =
     tie.close
     (tie.spec
-    Inv-loop
-    μ-loop
+    likely-requires
     core-count-requires
-    loop-holds
-    raw-is-requires
+    is-field-requires
     returns
-    add-i
-    loop-less
-    loop-again
-    returns-2)
+    search-requires
+    returns-2
+    search-requires-2
+    returns-3)

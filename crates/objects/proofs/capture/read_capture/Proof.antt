@@ -1,61 +1,56 @@
-use native.Mathlib.Omega.{arith}
-use lib.ListN.{length, getD, drop}
-use Prim.Native.Nat.{ℕ, _≤_, _<_, _-_, _+_, _*_}
-use mathlib.Core.Path.{_≡_, refl, sym, ap, _∙_}
-use Rattle.objects.proofs.ObjectLaws.{clear-zeros, capture-is}
+use mathlib.Core.Path.{refl}
+use Rattle.objects.proofs.ObjectLaws.{clear-zeros, capture-moment, capture-is}
 use Rattle.fields.specs.Names.{captures}
 use borrow.Author.Needs.{needs}
 use Rattle.objects.proofs.capture.read_capture.Statement.{statement}
 use Rattle.objects.proofs.capture.read_capture.Tie as tie
-use Rattle.objects.proofs.capture.read_capture.Reads as reads
-use Rattle.objects.proofs.capture.read_capture.Lts as lts
-use Rattle.objects.proofs.capture.places_low.Reads as places-low-reads
-use Rattle.objects.proofs.value.uint_or.Reads as uint-or-reads
-use Rattle.objects.proofs.walk.find_fields.Reads as find-fields-reads
-use Rattle.refusals.proofs.least.Reads as least-reads
 
 slice-aggregate-find-fields : tie.Need-slice-aggregate-find-fields
 slice-aggregate-find-fields c = search needs
 
+slice-aggregate-find-fields-2 : tie.Need-slice-aggregate-find-fields-2
+slice-aggregate-find-fields-2 c = search needs
+
 find-fields-requires : tie.Need-find-fields-requires
 unfolding captures
-find-fields-requires c κs = (refl, clear-zeros 7)
+find-fields-requires c κs = (refl, (refl, (clear-zeros 7, clear-zeros 7)))
 
-array-read-start : tie.Need-array-read-start
-array-read-start c = search needs
+array-read-places-low : tie.Need-array-read-places-low
+array-read-places-low c = search needs
 
-array-read-header : tie.Need-array-read-header
-array-read-header c = search needs
+array-read-places-low-2 : tie.Need-array-read-places-low-2
+array-read-places-low-2 c = search needs
 
-array-read-moment : tie.Need-array-read-moment
-array-read-moment c = search needs
+array-read-places-low-3 : tie.Need-array-read-places-low-3
+array-read-places-low-3 c = search needs
 
 places-low-requires : tie.Need-places-low-requires
-places-low-requires c κs = search needs
+places-low-requires c κs = capture-moment (c .before .before .before .before .before .before .args .s .now) (c .before .before .before .before .before .before .args .at) _ _ ((c .before .before .find-fields .ensures) .1 .1 .0) ((c .before .before .find-fields .ensures) .1 .1 .1 .0)
 
 least-requires : tie.Need-least-requires
 least-requires c κs = search needs
 
-uint-or-requires : tie.Need-uint-or-requires
-uint-or-requires c κs = search needs
+array-read-t23 : tie.Need-array-read-t23
+array-read-t23 c = search needs
 
-uint-or-requires-2 : tie.Need-uint-or-requires-2
-uint-or-requires-2 c κs = search needs
+array-read-t26 : tie.Need-array-read-t26
+array-read-t26 c = search needs
 
 returns : tie.Need-returns
-returns c = capture-is (c .before .before .before .before .before .before .before .before .args .s .now) (c .before .before .before .before .before .before .before .before .args .at) _ ((c .before .before .before .before .before .find-fields .ensures) .1 .1 .0) _ _ _ _ _ _ ((c .before .before .before .before .before .find-fields .ensures) .0) (c .before .before .before .places-low .ensures) (c .before .before .least .ensures) (c .before .uint-or .ensures) (c .uint-or2 .ensures) ((c .before .before .before .before .before .find-fields .ensures) .1 .0)
+returns c = capture-is (c .before .before .before .before .before .before .before .before .args .s .now) (c .before .before .before .before .before .before .before .before .args .at) _ _ ((c .before .before .before .before .find-fields .ensures) .1 .1 .0) ((c .before .before .before .before .find-fields .ensures) .1 .1 .1 .0) _ _ _ _ ((c .before .before .before .before .find-fields .ensures) .0) (c .before .places-low .ensures) (c .least .ensures) ((c .before .before .before .before .find-fields .ensures) .1 .0)
 
 pub read-capture-spec : {M : Type 1} → statement M
 read-capture-spec =
     tie.close
     (tie.spec
     slice-aggregate-find-fields
+    slice-aggregate-find-fields-2
     find-fields-requires
-    array-read-start
-    array-read-header
-    array-read-moment
+    array-read-places-low
+    array-read-places-low-2
+    array-read-places-low-3
     places-low-requires
     least-requires
-    uint-or-requires
-    uint-or-requires-2
+    array-read-t23
+    array-read-t26
     returns)

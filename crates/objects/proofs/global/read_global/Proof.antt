@@ -1,4 +1,3 @@
-use Prim.Native.Nat.{_-_}
 use mathlib.Core.Path.{refl}
 use Rattle.objects.proofs.GlobalLaws.{global-is}
 use Rattle.objects.proofs.ObjectLaws.{clear-zeros}
@@ -10,9 +9,12 @@ use Rattle.objects.proofs.global.read_global.Tie as tie
 slice-aggregate-find-fields : tie.Need-slice-aggregate-find-fields
 slice-aggregate-find-fields c = search needs
 
+slice-aggregate-find-fields-2 : tie.Need-slice-aggregate-find-fields-2
+slice-aggregate-find-fields-2 c = search needs
+
 find-fields-requires : tie.Need-find-fields-requires
 unfolding globals
-find-fields-requires c κs = (refl, clear-zeros 21)
+find-fields-requires c κs = (refl, (refl, (clear-zeros 21, clear-zeros 21)))
 
 slice-aggregate-places-low : tie.Need-slice-aggregate-places-low
 slice-aggregate-places-low c = search needs
@@ -30,13 +32,14 @@ globals-at-requires : tie.Need-globals-at-requires
 globals-at-requires c κs = search needs
 
 returns : tie.Need-returns
-returns c = global-is (c .before .before .before .before .before .before .before .before .before .args .s .now) (c .before .before .before .before .before .before .before .before .before .args .at) _ ((c .before .before .before .before .before .before .find-fields .ensures) .1 .1 .0) _ _ _ _ _ ((c .before .before .before .before .before .before .find-fields .ensures) .0) (c .before .before .before .places-low .ensures) (c .before .before .least .ensures) (c .globals-at .ensures) ((c .before .before .before .before .before .before .find-fields .ensures) .1 .0)
+returns c = global-is (c .before .before .before .before .before .before .before .before .before .before .before .args .s .now) (c .before .before .before .before .before .before .before .before .before .before .before .args .at) _ ((c .before .before .before .before .before .before .before .find-fields .ensures) .1 .1 .0) _ _ _ _ _ ((c .before .before .before .before .before .before .before .find-fields .ensures) .0) (c .before .before .before .places-low .ensures) (c .before .before .least .ensures) (c .globals-at .ensures) ((c .before .before .before .before .before .before .before .find-fields .ensures) .1 .0)
 
 pub read-global-spec : {M : Type 1} → statement M
 read-global-spec =
     tie.close
     (tie.spec
     slice-aggregate-find-fields
+    slice-aggregate-find-fields-2
     find-fields-requires
     slice-aggregate-places-low
     places-low-requires

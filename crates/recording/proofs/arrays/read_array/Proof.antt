@@ -3,7 +3,7 @@ use native.Mathlib.Omega.{arith}
 use lib.ListN.{length}
 use Prim.Native.Nat.{_-_}
 use mathlib.Core.Path.{sym, ap, _∙_}
-use Rattle.recording.proofs.ArrayLaws.{Walking, walk-begin, walk-low, walk-kept, walk-read, walk-past, walk-on}
+use Rattle.recording.proofs.ArrayLaws.{Walking, walk-begin, walk-low, walk-kept, walk-end, walk-read, walk-past, walk-on}
 use Rattle.tokens.proofs.TextLaws.{inside}
 use Rattle.members.specs.Members.{nextItem}
 use Rattle.refusals.specs.Refusals.{least}
@@ -11,7 +11,7 @@ use Rattle.recording.proofs.arrays.read_array.Statement.{statement}
 use Rattle.recording.proofs.arrays.read_array.Tie as tie
 
 abbrev Inv-loop : tie.InvT-loop
-Inv-loop kind s at out₀ p₀ n₀ low₀ out p n low = Walking kind s p₀ p n low out₀ out
+Inv-loop kind s at out₀ p₀ n₀ low₀ out p n low = Walking kind s at p n low out₀ out
 
 abbrev μ-loop : tie.MeasureT-loop
 μ-loop kind s at out₀ p₀ n₀ low₀ out p n low = length s - p
@@ -23,16 +23,19 @@ skip-blanks-requires : tie.Need-skip-blanks-requires Inv-loop μ-loop
 skip-blanks-requires c κs = search needs
 
 loop-holds : tie.Need-loop-holds Inv-loop μ-loop
-loop-holds c = walk-begin (c .before .before .before .args .kind) (c .before .before .before .args .s .now) (c .before .before .before .args .at) _ (c .skip-blanks .ensures) _ ((c .before .before .before .pre) .0) ((c .before .before .before .pre) .1 .0)
+loop-holds c = walk-begin (c .before .before .before .args .kind) (c .before .before .before .args .s .now) (c .before .before .before .args .at) _ _ (c .skip-blanks .ensures) ((c .before .before .before .pre) .0) ((c .before .before .before .pre) .1 .0)
 
 peek-requires : tie.Need-peek-requires Inv-loop μ-loop
 peek-requires c κs = search needs
+
+add-t14 : tie.Need-add-t14 Inv-loop μ-loop
+add-t14 c = let l = inside (c .before .before .before .before .before .before .args .s .now) (c .before .before .loop .p) 0x5D (sym (c .if1 .taken) ∙ (c .before .peek .ensures)) (omega arith) in omega arith
 
 same-length : tie.Need-same-length Inv-loop μ-loop
 same-length c = (c .before .before .loop .inv .long)
 
 returns : tie.Need-returns Inv-loop μ-loop
-returns c = (walk-low (c .before .before .before .before .before .before .args .kind) (c .before .before .before .before .before .before .args .s .now) (c .before .before .before .before .before .before .args .at) _ (c .before .before .before .skip-blanks .ensures) _ (c .before .before .loop .p) (c .before .before .loop .n) (c .before .before .loop .low) (c .before .before .loop .out) (c .before .before .loop .inv) (sym (c .before .peek .ensures) ∙ (c .if1 .taken)), walk-kept (c .before .before .before .before .before .before .args .kind) (c .before .before .before .before .before .before .args .s .now) (c .before .before .before .before .before .before .args .at) _ (c .before .before .before .skip-blanks .ensures) _ (c .before .before .loop .p) (c .before .before .loop .n) (c .before .before .loop .low) (c .before .before .loop .out) (c .before .before .loop .inv) (sym (c .before .peek .ensures) ∙ (c .if1 .taken)))
+returns c = (walk-low (c .before .before .before .before .before .before .args .kind) (c .before .before .before .before .before .before .args .s .now) (c .before .before .before .before .before .before .args .at) _ (c .before .before .loop .p) (c .before .before .loop .n) (c .before .before .loop .low) (c .before .before .loop .out) (c .before .before .loop .inv) (sym (c .before .peek .ensures) ∙ (c .if1 .taken)), (walk-kept (c .before .before .before .before .before .before .args .kind) (c .before .before .before .before .before .before .args .s .now) (c .before .before .before .before .before .before .args .at) _ (c .before .before .loop .p) (c .before .before .loop .n) (c .before .before .loop .low) (c .before .before .loop .out) (c .before .before .loop .inv) (sym (c .before .peek .ensures) ∙ (c .if1 .taken)), walk-end (c .before .before .before .before .before .before .args .kind) (c .before .before .before .before .before .before .args .s .now) (c .before .before .before .before .before .before .args .at) _ (c .before .before .loop .p) (c .before .before .loop .n) (c .before .before .loop .low) (c .before .before .loop .out) (c .before .before .loop .inv) (sym (c .before .peek .ensures) ∙ (c .if1 .taken))))
 
 read-element-requires : tie.Need-read-element-requires Inv-loop μ-loop
 read-element-requires c κs = walk-read (c .before .before .before .before .before .before .before .args .kind) (c .before .before .before .before .before .before .before .args .s .now) _ (c .before .before .before .loop .p) (c .before .before .before .loop .n) (c .before .before .before .loop .low) _ (c .before .before .before .loop .out) (c .before .before .before .loop .inv) (λ z. (c .before .if1 .left) ((c .before .before .peek .ensures) ∙ z))
@@ -62,6 +65,7 @@ read-array-spec =
     skip-blanks-requires
     loop-holds
     peek-requires
+    add-t14
     same-length
     returns
     read-element-requires

@@ -12,7 +12,7 @@ read-object-requires : tie.Need-read-object-requires
 read-object-requires c κs = search needs
 
 add-t12 : tie.Need-add-t12
-add-t12 c = let l = close-fits (c .before .before .before .before .before .before .before .before .before .args .s .now) (c .before .before .before .before .before .before .before .before .before .args .at) (sym (c .before .before .before .before .before .before .peek .ensures) ∙ (c .before .before .before .before .before .if1 .taken)) (c .before .before .before .before .before .before .before .before .before .pre) in omega (arith, (c .before .before .before .read-object .ensures .1 .0))
+add-t12 c = let l = close-fits 29 (c .before .before .before .before .before .before .before .before .before .args .s .now) (c .before .before .before .before .before .before .before .before .before .args .at) (sym (c .before .before .before .before .before .before .peek .ensures) ∙ (c .before .before .before .before .before .if1 .taken)) (c .before .before .before .before .before .before .before .before .before .pre) in omega (arith, (c .before .before .before .read-object .ensures .1 .0))
 
 same-length : tie.Need-same-length
 same-length c = search needs

@@ -4,8 +4,8 @@ use borrow.Author.Needs.{needs}
 use Rattle.texts.proofs.datetimes.begins_digit.Statement.{statement}
 use Rattle.texts.proofs.datetimes.begins_digit.Tie as tie
 
-next-byte-requires : tie.Need-next-byte-requires
-next-byte-requires c κs = search needs
+next-requires : tie.Need-next-requires
+next-requires c κs = search needs
 
 enum-known-g : tie.Need-enum-known-g
 enum-known-g c = search needs
@@ -14,15 +14,15 @@ enum-told : tie.Need-enum-told
 enum-told c = search needs
 
 returns : tie.Need-returns
-returns c = starts-end _ (streamed-end _ _ _ (c .before .before .next-byte .ensures) (c .enum-told .given .1))
+returns c = starts-end _ (streamed-end _ _ _ (c .before .before .next .ensures) (c .enum-told .given .1))
 
 is-within-requires : tie.Need-is-within-requires
 is-within-requires c κs = search needs
 
 returns-2 : tie.Need-returns-2
-returns-2 c = starts-is _ _ _ (streamed-next _ _ _ (c .before .before .before .before .next-byte .ensures) _ _ _ (c .before .before .g .given .1)) _ (c .is-within .ensures)
+returns-2 c = starts-is _ _ _ (streamed-next _ _ _ (c .before .before .before .before .next .ensures) _ _ _ (c .before .before .g .given .1)) _ (c .is-within .ensures)
 
 pub begins-digit-spec : {M : Type 1} → statement M
 begins-digit-spec =
     tie.close
-    (tie.spec next-byte-requires enum-known-g enum-told returns is-within-requires returns-2)
+    (tie.spec next-requires enum-known-g enum-told returns is-within-requires returns-2)

@@ -1,61 +1,59 @@
-use Rattle.texts.proofs.DatetimeLaws.{clock-1, clock-2, clock-3, clock-4}
+use native.Mathlib.Omega.{arith}
+use mathlib.Core.Path.{sym, _∙_}
+use Rattle.texts.proofs.DirectLaws.{clock-room, clock-hour, clock-minute, clock-second, clock-self}
 use borrow.Author.Needs.{needs}
 use Rattle.texts.proofs.datetimes.clock.Statement.{statement}
 use Rattle.texts.proofs.datetimes.clock.Tie as tie
 
-pair-then-requires : tie.Need-pair-then-requires
-pair-then-requires c κs = search needs
+has-clock-requires : tie.Need-has-clock-requires
+has-clock-requires c κs = search needs
 
-enum-known-p : tie.Need-enum-known-p
-enum-known-p c = search needs
+pair-at-requires : tie.Need-pair-at-requires
+pair-at-requires c κs = clock-hour (c .before .before .before .before .args .s .now) (c .before .before .before .before .args .at) (sym (c .before .has-clock .ensures) ∙ (c .if2 .taken))
 
-enum-told : tie.Need-enum-told
-enum-told c = search needs
+add-pair-at : tie.Need-add-pair-at
+add-pair-at c = omega (arith, clock-room (c .before .before .before .before .before .args .s .now) (c .before .before .before .before .before .args .at) (sym (c .before .before .has-clock .ensures) ∙ (c .before .if2 .taken)))
+
+pair-at-requires-2 : tie.Need-pair-at-requires-2
+pair-at-requires-2 c κs = clock-minute (c .before .before .before .before .before .args .s .now) (c .before .before .before .before .before .args .at) (sym (c .before .before .has-clock .ensures) ∙ (c .before .if2 .taken))
+
+add-pair-at-2 : tie.Need-add-pair-at-2
+add-pair-at-2 c = omega (arith, clock-room (c .before .before .before .before .before .before .args .s .now) (c .before .before .before .before .before .before .args .at) (sym (c .before .before .before .has-clock .ensures) ∙ (c .before .before .if2 .taken)))
+
+pair-at-requires-3 : tie.Need-pair-at-requires-3
+pair-at-requires-3 c κs = clock-second (c .before .before .before .before .before .before .args .s .now) (c .before .before .before .before .before .before .args .at) (sym (c .before .before .before .has-clock .ensures) ∙ (c .before .before .if2 .taken))
+
+add-t12 : tie.Need-add-t12
+add-t12 c = omega (arith, clock-room (c .before .before .before .before .before .before .before .args .s .now) (c .before .before .before .before .before .before .before .args .at) (sym (c .before .before .before .before .has-clock .ensures) ∙ (c .before .before .before .if2 .taken)))
 
 returns : tie.Need-returns
-returns c = clock-1 _ _ _ _ (c .before .before .pair-then .ensures) (c .enum-told .given .1)
+returns c = clock-self (c .before .before .before .before .before .before .before .args .s .now) (c .before .before .before .before .before .before .before .args .at) (sym (c .before .before .before .before .has-clock .ensures) ∙ (c .before .before .before .if2 .taken)) _ _ _ _ (c .before .before .before .before .before .if1 .taken) (c .before .before .pair-at .ensures) (c .before .pair-at2 .ensures) (c .pair-at3 .ensures)
 
-pair-then-requires-2 : tie.Need-pair-then-requires-2
-pair-then-requires-2 c κs = search needs
-
-enum-known-q : tie.Need-enum-known-q
-enum-known-q c = search needs
-
-enum-told-2 : tie.Need-enum-told-2
-enum-told-2 c = search needs
+decoded-clock-requires : tie.Need-decoded-clock-requires
+decoded-clock-requires c κs = search needs
 
 returns-2 : tie.Need-returns-2
-returns-2 c = clock-2 _ _ _ _ (c .before .before .before .before .before .before .pair-then .ensures) _ _ _ (c .before .before .before .before .p .given .1) _ (c .before .before .pair-then2 .ensures) (c .enum-told2 .given .1)
+returns-2 c = search needs
 
-pair-requires : tie.Need-pair-requires
-pair-requires c κs = search needs
-
-enum-known-r : tie.Need-enum-known-r
-enum-known-r c = search needs
-
-enum-told-3 : tie.Need-enum-told-3
-enum-told-3 c = search needs
+decoded-clock-requires-2 : tie.Need-decoded-clock-requires-2
+decoded-clock-requires-2 c κs = search needs
 
 returns-3 : tie.Need-returns-3
-returns-3 c = clock-3 _ _ _ _ (c .before .before .before .before .before .before .before .before .before .before .pair-then .ensures) _ _ _ (c .before .before .before .before .before .before .before .before .p .given .1) _ (c .before .before .before .before .before .before .pair-then2 .ensures) _ _ _ (c .before .before .before .before .q .given .1) _ (c .before .before .pair .ensures) (c .enum-told3 .given .1)
-
-returns-4 : tie.Need-returns-4
-returns-4 c = clock-4 _ _ _ _ (c .before .before .before .before .before .before .before .before .before .before .before .pair-then .ensures) _ _ _ (c .before .before .before .before .before .before .before .before .before .p .given .1) _ (c .before .before .before .before .before .before .before .pair-then2 .ensures) _ _ _ (c .before .before .before .before .before .q .given .1) _ (c .before .before .before .pair .ensures) _ _ _ (c .before .r .given .1)
+returns-3 c = search needs
 
 pub clock-spec : {M : Type 1} → statement M
 clock-spec =
     tie.close
     (tie.spec
-    pair-then-requires
-    enum-known-p
-    enum-told
+    has-clock-requires
+    pair-at-requires
+    add-pair-at
+    pair-at-requires-2
+    add-pair-at-2
+    pair-at-requires-3
+    add-t12
     returns
-    pair-then-requires-2
-    enum-known-q
-    enum-told-2
+    decoded-clock-requires
     returns-2
-    pair-requires
-    enum-known-r
-    enum-told-3
-    returns-3
-    returns-4)
+    decoded-clock-requires-2
+    returns-3)

@@ -1,86 +1,67 @@
 use native.Mathlib.Omega.{arith}
-use Rattle.texts.proofs.DatetimeLaws.{date-1, date-2, date-3, date-4, date-5, pair-below, then-below}
+use mathlib.Core.Path.{sym, _∙_}
+use Rattle.texts.proofs.DirectLaws.{pair-under, date-room, date-century, date-year, date-month, date-day, date-self}
 use borrow.Author.Needs.{needs}
 use Rattle.texts.proofs.datetimes.date.Statement.{statement}
 use Rattle.texts.proofs.datetimes.date.Tie as tie
 
-pair-requires : tie.Need-pair-requires
-pair-requires c κs = search needs
+has-date-requires : tie.Need-has-date-requires
+has-date-requires c κs = search needs
 
-enum-known-p : tie.Need-enum-known-p
-enum-known-p c = search needs
+pair-at-requires : tie.Need-pair-at-requires
+pair-at-requires c κs = date-century (c .before .before .before .args .s .now) (c .before .before .before .args .at) (sym (c .before .has-date .ensures) ∙ (c .if1 .taken))
 
-enum-told : tie.Need-enum-told
-enum-told c = search needs
+mul-t5 : tie.Need-mul-t5
+mul-t5 c = omega (arith, pair-under (c .before .before .before .before .args .s .now) _ (date-century (c .before .before .before .before .args .s .now) (c .before .before .before .before .args .at) (sym (c .before .before .has-date .ensures) ∙ (c .before .if1 .taken))) _ (c .pair-at .ensures))
+
+add-pair-at : tie.Need-add-pair-at
+add-pair-at c = omega (arith, date-room (c .before .before .before .before .args .s .now) (c .before .before .before .before .args .at) (sym (c .before .before .has-date .ensures) ∙ (c .before .if1 .taken)))
+
+pair-at-requires-2 : tie.Need-pair-at-requires-2
+pair-at-requires-2 c κs = date-year (c .before .before .before .before .args .s .now) (c .before .before .before .before .args .at) (sym (c .before .before .has-date .ensures) ∙ (c .before .if1 .taken))
+
+add-t8 : tie.Need-add-t8
+add-t8 c = omega (arith, pair-under (c .before .before .before .before .before .args .s .now) _ (date-century (c .before .before .before .before .before .args .s .now) (c .before .before .before .before .before .args .at) (sym (c .before .before .before .has-date .ensures) ∙ (c .before .before .if1 .taken))) _ (c .before .pair-at .ensures), pair-under (c .before .before .before .before .before .args .s .now) _ (date-year (c .before .before .before .before .before .args .s .now) (c .before .before .before .before .before .args .at) (sym (c .before .before .before .has-date .ensures) ∙ (c .before .before .if1 .taken))) _ (c .pair-at2 .ensures))
+
+add-pair-at-2 : tie.Need-add-pair-at-2
+add-pair-at-2 c = omega (arith, date-room (c .before .before .before .before .before .args .s .now) (c .before .before .before .before .before .args .at) (sym (c .before .before .before .has-date .ensures) ∙ (c .before .before .if1 .taken)))
+
+pair-at-requires-3 : tie.Need-pair-at-requires-3
+pair-at-requires-3 c κs = date-month (c .before .before .before .before .before .args .s .now) (c .before .before .before .before .before .args .at) (sym (c .before .before .before .has-date .ensures) ∙ (c .before .before .if1 .taken))
+
+add-pair-at-3 : tie.Need-add-pair-at-3
+add-pair-at-3 c = omega (arith, date-room (c .before .before .before .before .before .before .args .s .now) (c .before .before .before .before .before .before .args .at) (sym (c .before .before .before .before .has-date .ensures) ∙ (c .before .before .before .if1 .taken)))
+
+pair-at-requires-4 : tie.Need-pair-at-requires-4
+pair-at-requires-4 c κs = date-day (c .before .before .before .before .before .before .args .s .now) (c .before .before .before .before .before .before .args .at) (sym (c .before .before .before .before .has-date .ensures) ∙ (c .before .before .before .if1 .taken))
+
+add-t14 : tie.Need-add-t14
+add-t14 c = omega (arith, date-room (c .before .before .before .before .before .before .before .args .s .now) (c .before .before .before .before .before .before .before .args .at) (sym (c .before .before .before .before .before .has-date .ensures) ∙ (c .before .before .before .before .if1 .taken)))
 
 returns : tie.Need-returns
-returns c = date-1 _ _ _ (c .before .before .pair .ensures) (c .enum-told .given .1)
+returns c = date-self (c .before .before .before .before .before .before .before .args .s .now) (c .before .before .before .before .before .before .before .args .at) (sym (c .before .before .before .before .before .has-date .ensures) ∙ (c .before .before .before .before .if1 .taken)) _ _ _ _ (c .before .before .before .pair-at .ensures) (c .before .before .pair-at2 .ensures) (c .before .pair-at3 .ensures) (c .pair-at4 .ensures)
 
-pair-then-requires : tie.Need-pair-then-requires
-pair-then-requires c κs = search needs
-
-enum-known-q : tie.Need-enum-known-q
-enum-known-q c = search needs
-
-enum-told-2 : tie.Need-enum-told-2
-enum-told-2 c = search needs
+decoded-date-requires : tie.Need-decoded-date-requires
+decoded-date-requires c κs = search needs
 
 returns-2 : tie.Need-returns-2
-returns-2 c = date-2 _ _ _ (c .before .before .before .before .before .before .pair .ensures) _ _ _ (c .before .before .before .before .p .given .1) _ (c .before .before .pair-then .ensures) (c .enum-told2 .given .1)
-
-pair-then-requires-2 : tie.Need-pair-then-requires-2
-pair-then-requires-2 c κs = search needs
-
-enum-known-r : tie.Need-enum-known-r
-enum-known-r c = search needs
-
-enum-told-3 : tie.Need-enum-told-3
-enum-told-3 c = search needs
-
-returns-3 : tie.Need-returns-3
-returns-3 c = date-3 _ _ _ (c .before .before .before .before .before .before .before .before .before .before .pair .ensures) _ _ _ (c .before .before .before .before .before .before .before .before .p .given .1) _ (c .before .before .before .before .before .before .pair-then .ensures) _ _ _ (c .before .before .before .before .q .given .1) _ (c .before .before .pair-then2 .ensures) (c .enum-told3 .given .1)
-
-pair-then-requires-3 : tie.Need-pair-then-requires-3
-pair-then-requires-3 c κs = search needs
-
-enum-known-t : tie.Need-enum-known-t
-enum-known-t c = search needs
-
-enum-told-4 : tie.Need-enum-told-4
-enum-told-4 c = search needs
-
-returns-4 : tie.Need-returns-4
-returns-4 c = date-4 _ _ _ (c .before .before .before .before .before .before .before .before .before .before .before .before .before .before .pair .ensures) _ _ _ (c .before .before .before .before .before .before .before .before .before .before .before .before .p .given .1) _ (c .before .before .before .before .before .before .before .before .before .before .pair-then .ensures) _ _ _ (c .before .before .before .before .before .before .before .before .q .given .1) _ (c .before .before .before .before .before .before .pair-then2 .ensures) _ _ _ (c .before .before .before .before .r .given .1) _ (c .before .before .pair-then3 .ensures) (c .enum-told4 .given .1)
-
-mul-t19 : tie.Need-mul-t19
-mul-t19 c = let u = pair-below _ _ _ _ _ _ _ (c .before .before .before .before .before .before .before .before .before .before .before .before .before .p .given .1) (c .before .before .before .before .before .before .before .before .before .before .before .before .before .before .before .pair .ensures) in omega arith
-
-add-t20 : tie.Need-add-t20
-add-t20 c = let u = pair-below _ _ _ _ _ _ _ (c .before .before .before .before .before .before .before .before .before .before .before .before .before .p .given .1) (c .before .before .before .before .before .before .before .before .before .before .before .before .before .before .before .pair .ensures) in let v = then-below _ _ _ _ _ _ _ (c .before .before .before .before .before .before .before .before .before .q .given .1) _ (c .before .before .before .before .before .before .before .before .before .before .before .pair-then .ensures) in omega arith
-
-returns-5 : tie.Need-returns-5
-returns-5 c = date-5 _ _ _ (c .before .before .before .before .before .before .before .before .before .before .before .before .before .before .before .pair .ensures) _ _ _ (c .before .before .before .before .before .before .before .before .before .before .before .before .before .p .given .1) _ (c .before .before .before .before .before .before .before .before .before .before .before .pair-then .ensures) _ _ _ (c .before .before .before .before .before .before .before .before .before .q .given .1) _ (c .before .before .before .before .before .before .before .pair-then2 .ensures) _ _ _ (c .before .before .before .before .before .r .given .1) _ (c .before .before .before .pair-then3 .ensures) _ _ _ (c .before .t .given .1)
+returns-2 c = search needs
 
 pub date-spec : {M : Type 1} → statement M
 date-spec =
     tie.close
     (tie.spec
-    pair-requires
-    enum-known-p
-    enum-told
+    has-date-requires
+    pair-at-requires
+    mul-t5
+    add-pair-at
+    pair-at-requires-2
+    add-t8
+    add-pair-at-2
+    pair-at-requires-3
+    add-pair-at-3
+    pair-at-requires-4
+    add-t14
     returns
-    pair-then-requires
-    enum-known-q
-    enum-told-2
-    returns-2
-    pair-then-requires-2
-    enum-known-r
-    enum-told-3
-    returns-3
-    pair-then-requires-3
-    enum-known-t
-    enum-told-4
-    returns-4
-    mul-t19
-    add-t20
-    returns-5)
+    decoded-date-requires
+    returns-2)

@@ -7,8 +7,8 @@ use borrow.Author.Needs.{needs}
 use Rattle.texts.proofs.datetimes.pair.Statement.{statement}
 use Rattle.texts.proofs.datetimes.pair.Tie as tie
 
-next-byte-requires : tie.Need-next-byte-requires
-next-byte-requires c κs = search needs
+next-requires : tie.Need-next-requires
+next-requires c κs = search needs
 
 enum-known-g : tie.Need-enum-known-g
 enum-known-g c = search needs
@@ -17,13 +17,13 @@ enum-told : tie.Need-enum-told
 enum-told c = search needs
 
 returns : tie.Need-returns
-returns c = pair-end _ (streamed-end _ _ _ (c .before .before .next-byte .ensures) (c .enum-told .given .1))
+returns c = pair-end _ (streamed-end _ _ _ (c .before .before .next .ensures) (c .enum-told .given .1))
 
 is-within-requires : tie.Need-is-within-requires
 is-within-requires c κs = search needs
 
-next-byte-requires-2 : tie.Need-next-byte-requires-2
-next-byte-requires-2 c κs = search needs
+next-requires-2 : tie.Need-next-requires-2
+next-requires-2 c κs = search needs
 
 enum-known-h : tie.Need-enum-known-h
 enum-known-h c = search needs
@@ -32,7 +32,7 @@ enum-told-2 : tie.Need-enum-told-2
 enum-told-2 c = search needs
 
 returns-2 : tie.Need-returns-2
-returns-2 c = pair-one _ _ _ (streamed-next _ _ _ (c .before .before .before .before .before .before .before .before .next-byte .ensures) _ _ _ (c .before .before .before .before .before .before .g .given .1)) (streamed-end _ _ _ (c .before .before .next-byte2 .ensures) (c .enum-told2 .given .1))
+returns-2 c = pair-one _ _ _ (streamed-next _ _ _ (c .before .before .before .before .before .before .before .before .next .ensures) _ _ _ (c .before .before .before .before .before .before .g .given .1)) (streamed-end _ _ _ (c .before .before .next2 .ensures) (c .enum-told2 .given .1))
 
 is-within-requires-2 : tie.Need-is-within-requires-2
 is-within-requires-2 c κs = search needs
@@ -56,24 +56,24 @@ add-t19 : tie.Need-add-t19
 add-t19 c = search needs
 
 returns-3 : tie.Need-returns-3
-returns-3 c = pair-both _ _ _ (streamed-next _ _ _ (c .before .before .before .before .before .before .before .before .before .before .before .next-byte .ensures) _ _ _ (c .before .before .before .before .before .before .before .before .before .g .given .1)) _ _ (streamed-next _ _ _ (c .before .before .before .before .before .next-byte2 .ensures) _ _ _ (c .before .before .before .h .given .1)) (sym (c .before .before .before .before .before .before .before .is-within .ensures) ∙ (c .before .before .before .before .before .before .if1 .taken)) (sym (c .before .is-within2 .ensures) ∙ (c .if2 .taken))
+returns-3 c = pair-both _ _ _ (streamed-next _ _ _ (c .before .before .before .before .before .before .before .before .before .before .before .next .ensures) _ _ _ (c .before .before .before .before .before .before .before .before .before .g .given .1)) _ _ (streamed-next _ _ _ (c .before .before .before .before .before .next2 .ensures) _ _ _ (c .before .before .before .h .given .1)) (sym (c .before .before .before .before .before .before .before .is-within .ensures) ∙ (c .before .before .before .before .before .before .if1 .taken)) (sym (c .before .is-within2 .ensures) ∙ (c .if2 .taken))
 
 returns-4 : tie.Need-returns-4
-returns-4 c = pair-second _ _ _ (streamed-next _ _ _ (c .before .before .before .before .before .before .before .before .before .before .before .next-byte .ensures) _ _ _ (c .before .before .before .before .before .before .before .before .before .g .given .1)) _ _ (streamed-next _ _ _ (c .before .before .before .before .before .next-byte2 .ensures) _ _ _ (c .before .before .before .h .given .1)) (sym (c .before .before .before .before .before .before .before .is-within .ensures) ∙ (c .before .before .before .before .before .before .if1 .taken)) (sym (c .before .is-within2 .ensures) ∙ (c .if2 .left))
+returns-4 c = pair-second _ _ _ (streamed-next _ _ _ (c .before .before .before .before .before .before .before .before .before .before .before .next .ensures) _ _ _ (c .before .before .before .before .before .before .before .before .before .g .given .1)) _ _ (streamed-next _ _ _ (c .before .before .before .before .before .next2 .ensures) _ _ _ (c .before .before .before .h .given .1)) (sym (c .before .before .before .before .before .before .before .is-within .ensures) ∙ (c .before .before .before .before .before .before .if1 .taken)) (sym (c .before .is-within2 .ensures) ∙ (c .if2 .left))
 
 returns-5 : tie.Need-returns-5
-returns-5 c = pair-first _ _ _ (streamed-next _ _ _ (c .before .before .before .before .before .next-byte .ensures) _ _ _ (c .before .before .before .g .given .1)) (sym (c .before .is-within .ensures) ∙ (c .if1 .left))
+returns-5 c = pair-first _ _ _ (streamed-next _ _ _ (c .before .before .before .before .before .next .ensures) _ _ _ (c .before .before .before .g .given .1)) (sym (c .before .is-within .ensures) ∙ (c .if1 .left))
 
 pub pair-spec : {M : Type 1} → statement M
 pair-spec =
     tie.close
     (tie.spec
-    next-byte-requires
+    next-requires
     enum-known-g
     enum-told
     returns
     is-within-requires
-    next-byte-requires-2
+    next-requires-2
     enum-known-h
     enum-told-2
     returns-2

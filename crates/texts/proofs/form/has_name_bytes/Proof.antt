@@ -1,9 +1,9 @@
 use borrow.Author.Needs.{needs}
 use lib.ListN.{length}
 use mathlib.Core.Path.{_≡_, refl, sym, _∙_}
+use Rattle.tokens.specs.Lists.{all}
 use Rattle.decode.proofs.DecodeLaws.{streamed-next, streamed-end, shorter}
 use Rattle.texts.proofs.FormLaws.{all-end, all-on, all-not}
-use Rattle.texts.specs.Texts.{all}
 use Rattle.texts.specs.Form.{nameByte}
 use Rattle.decode.specs.Decode.{stream}
 use Rattle.texts.proofs.form.has_name_bytes.Statement.{statement}

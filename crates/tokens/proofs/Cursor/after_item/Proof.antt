@@ -14,11 +14,11 @@ peek-requires c κs = search needs
 add-t9 : tie.Need-add-t9
 add-t9 c = omega (arith, inside (c .before .before .before .before .args .s .now) (c .before .before .skip-blanks .result .at) _ (c .before .peek .ensures) (omega arith))
 
-skip-blanks-requires-2 : tie.Need-skip-blanks-requires-2
-skip-blanks-requires-2 c κs = search needs
+skip-indent-requires : tie.Need-skip-indent-requires
+skip-indent-requires c κs = search needs
 
 returns : tie.Need-returns
-returns c = after-comma _ _ _ _ _ (c .before .before .before .skip-blanks .ensures) (c .before .before .peek .ensures) _ (c .before .if1 .taken) (c .skip-blanks2 .ensures)
+returns c = after-comma _ _ _ _ _ (c .before .before .before .skip-blanks .ensures) (c .before .before .peek .ensures) _ (c .before .if1 .taken) (c .skip-indent .ensures)
 
 add-t11 : tie.Need-add-t11
 add-t11 c = omega (arith, inside (c .before .before .before .before .before .args .s .now) (c .before .before .before .skip-blanks .result .at) _ (c .before .before .peek .ensures) (omega arith))
@@ -36,7 +36,7 @@ after-item-spec =
     skip-blanks-requires
     peek-requires
     add-t9
-    skip-blanks-requires-2
+    skip-indent-requires
     returns
     add-t11
     returns-2
