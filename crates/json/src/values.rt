@@ -118,7 +118,7 @@ pub(crate) fn array(
     if depth == 0 {
         return Scan::Bad;
     }
-    let c = Cursor { at: at }.skip_blanks(s);
+    let c = Cursor { at: at }.skip_indent(s);
     let mut i = c.at;
     let b = peek(s, i);
     if b == b']' {
@@ -164,7 +164,7 @@ pub(crate) fn object(
     if depth == 0 {
         return Scan::Bad;
     }
-    let c = Cursor { at: at }.skip_blanks(s);
+    let c = Cursor { at: at }.skip_indent(s);
     let mut i = c.at;
     let b = peek(s, i);
     if b == b'}' {
@@ -215,13 +215,13 @@ pub(crate) fn judge_with(s: &[u8], places: &mut [usize], keys: &mut [u32]) -> Ju
     requires { ⌜ Room nesting (now s) 1 0 (length (now keys)) ⌝ }
     ensures { λ r. ⌜ r ≡ judged (now (s .entry)) ⌝ }
 {
-    let c = Cursor { at: 0 }.skip_blanks(s);
+    let c = Cursor { at: 0 }.skip_indent(s);
     let i = c.at;
     let r = value(s, i, Limits::NESTING, places, keys, 0);
     let Scan::To(d, bad) = r else {
         return Judged::NotJson;
     };
-    let e = d.skip_blanks(s);
+    let e = d.skip_indent(s);
     let at = e.at;
     if at < s.len() {
         return Judged::NotJson;

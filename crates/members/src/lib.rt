@@ -204,7 +204,7 @@ pub fn skip_value(s: &[u8], at: usize) -> usize
 pub fn next_item(s: &[u8], at: usize) -> usize
     ensures { λ r. ⌜ r ≡ nextItem (now (s .entry)) at ⌝ }
 {
-    let c = Cursor { at: at }.skip_blanks(s);
+    let c = Cursor { at: at }.skip_indent(s);
     let k = c.at;
     let b = peek(s, k);
     if b == b',' {

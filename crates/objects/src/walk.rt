@@ -101,7 +101,7 @@ pub(crate) fn find_fields(
     if s.len() <= at {
         return Walked { low: 0, close: at };
     }
-    let c = Cursor { at: at + 1 }.skip_blanks(s);
+    let c = Cursor { at: at + 1 }.skip_indent(s);
     let mut j = c.at;
     let mut low = 0u64;
     loop {

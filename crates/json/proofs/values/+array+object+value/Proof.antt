@@ -25,7 +25,7 @@ use Rattle.json.proofs.values.name_key.Reads as name-key-reads
 use Rattle.json.proofs.values.plain.Reads as plain-reads
 use Rattle.tokens.proofs.Cursor.after_element.Reads as after-element-reads
 use Rattle.tokens.proofs.Cursor.after_member.Reads as after-member-reads
-use Rattle.tokens.proofs.Cursor.skip_blanks.Reads as skip-blanks-reads
+use Rattle.tokens.proofs.Cursor.skip_blanks.Reads as skip-indent-reads
 use Rattle.tokens.proofs.peek.Reads as peek-reads
 use Rattle.json.proofs.values.+array+object+value.{statement}
 use Rattle.json.proofs.values.+array+object+value.Tie.{close}
@@ -64,8 +64,8 @@ abbrev array-μ-loop : array-lts.MeasureT-loop
 array-μ-loop s at depth places₀ keys₀ used i₀ b bad₀ places keys i bad = length s - i
 
 array-returns : (t : ℕ) → array-lts.Need-returns (
-  skip-blanks-reads.Asked,
-  skip-blanks-reads.Learnt,
+  skip-indent-reads.Asked,
+  skip-indent-reads.Learnt,
   peek-reads.Asked,
   peek-reads.Learnt,
   value-below t,
@@ -77,9 +77,9 @@ array-returns : (t : ℕ) → array-lts.Need-returns (
 ) (array-at t) array.Post array-Inv-loop array-μ-loop
 array-returns t c = (array-zero _ _ _ (c .if1 .taken), (kept-same _ _, kept-same _ _))
 
-array-skip-blanks-requires : (t : ℕ) → array-lts.Need-skip-blanks-requires (
-  skip-blanks-reads.Asked,
-  skip-blanks-reads.Learnt,
+array-skip-indent-requires : (t : ℕ) → array-lts.Need-skip-indent-requires (
+  skip-indent-reads.Asked,
+  skip-indent-reads.Learnt,
   peek-reads.Asked,
   peek-reads.Learnt,
   value-below t,
@@ -89,11 +89,11 @@ array-skip-blanks-requires : (t : ℕ) → array-lts.Need-skip-blanks-requires (
   after-element-reads.Asked,
   after-element-reads.Learnt,
 ) (array-at t) array.Post array-Inv-loop array-μ-loop
-array-skip-blanks-requires t c κs = search needs
+array-skip-indent-requires t c κs = search needs
 
 array-peek-requires : (t : ℕ) → array-lts.Need-peek-requires (
-  skip-blanks-reads.Asked,
-  skip-blanks-reads.Learnt,
+  skip-indent-reads.Asked,
+  skip-indent-reads.Learnt,
   peek-reads.Asked,
   peek-reads.Learnt,
   value-below t,
@@ -106,8 +106,8 @@ array-peek-requires : (t : ℕ) → array-lts.Need-peek-requires (
 array-peek-requires t c κs = search needs
 
 array-add-t19 : (t : ℕ) → array-lts.Need-add-t19 (
-  skip-blanks-reads.Asked,
-  skip-blanks-reads.Learnt,
+  skip-indent-reads.Asked,
+  skip-indent-reads.Learnt,
   peek-reads.Asked,
   peek-reads.Learnt,
   value-below t,
@@ -117,11 +117,11 @@ array-add-t19 : (t : ℕ) → array-lts.Need-add-t19 (
   after-element-reads.Asked,
   after-element-reads.Learnt,
 ) (array-at t) array.Post array-Inv-loop array-μ-loop
-array-add-t19 t c = omega (arith, inside (c .before .before .before .before .before .before .before .args .s .now) (c .before .before .skip-blanks .result .at) _ (c .before .peek .ensures) (omega arith))
+array-add-t19 t c = omega (arith, inside (c .before .before .before .before .before .before .before .args .s .now) (c .before .before .skip-indent .result .at) _ (c .before .peek .ensures) (omega arith))
 
 array-returns-2 : (t : ℕ) → array-lts.Need-returns-2 (
-  skip-blanks-reads.Asked,
-  skip-blanks-reads.Learnt,
+  skip-indent-reads.Asked,
+  skip-indent-reads.Learnt,
   peek-reads.Asked,
   peek-reads.Learnt,
   value-below t,
@@ -131,11 +131,11 @@ array-returns-2 : (t : ℕ) → array-lts.Need-returns-2 (
   after-element-reads.Asked,
   after-element-reads.Learnt,
 ) (array-at t) array.Post array-Inv-loop array-μ-loop
-array-returns-2 t c = (array-empty _ _ _ _ _ (c .before .before .before .if1 .left) (c .before .before .skip-blanks .ensures) (c .before .peek .ensures) (c .if2 .taken), (kept-same _ _, kept-same _ _))
+array-returns-2 t c = (array-empty _ _ _ _ _ (c .before .before .before .if1 .left) (c .before .before .skip-indent .ensures) (c .before .peek .ensures) (c .if2 .taken), (kept-same _ _, kept-same _ _))
 
 array-loop-holds : (t : ℕ) → array-lts.Need-loop-holds (
-  skip-blanks-reads.Asked,
-  skip-blanks-reads.Learnt,
+  skip-indent-reads.Asked,
+  skip-indent-reads.Learnt,
   peek-reads.Asked,
   peek-reads.Learnt,
   value-below t,
@@ -145,11 +145,11 @@ array-loop-holds : (t : ℕ) → array-lts.Need-loop-holds (
   after-element-reads.Asked,
   after-element-reads.Learnt,
 ) (array-at t) array.Post array-Inv-loop array-μ-loop
-array-loop-holds t c = array-start _ _ _ _ _ _ _ (c .before .before .skip-blanks .ensures)
+array-loop-holds t c = array-start _ _ _ _ _ _ _ (c .before .before .skip-indent .ensures)
 
 array-sub-value : (t : ℕ) → array-lts.Need-sub-value (
-  skip-blanks-reads.Asked,
-  skip-blanks-reads.Learnt,
+  skip-indent-reads.Asked,
+  skip-indent-reads.Learnt,
   peek-reads.Asked,
   peek-reads.Learnt,
   value-below t,
@@ -162,8 +162,8 @@ array-sub-value : (t : ℕ) → array-lts.Need-sub-value (
 array-sub-value t c = omega arith
 
 array-value-requires : (t : ℕ) → array-lts.Need-value-requires (
-  skip-blanks-reads.Asked,
-  skip-blanks-reads.Learnt,
+  skip-indent-reads.Asked,
+  skip-indent-reads.Learnt,
   peek-reads.Asked,
   peek-reads.Learnt,
   value-below t,
@@ -176,8 +176,8 @@ array-value-requires : (t : ℕ) → array-lts.Need-value-requires (
 array-value-requires t c κs = (omega (arith, (c .before .before .before .before .before .before .before .before .before .before .pre .0), (c .before .before .loop .inv .forward), (c .before .before .before .before .before .before .if1 .left)), (omega (arith, (c .before .before .before .before .before .before .before .before .before .before .pre .1 .0), (c .before .before .loop .inv .forward), (c .before .before .loop .inv .places-kept .long)), omega (arith, (c .before .before .before .before .before .before .before .before .before .before .pre .1 .1), (c .before .before .loop .inv .forward), (c .before .before .loop .inv .keys-kept .long))))
 
 array-enum-known-r : (t : ℕ) → array-lts.Need-enum-known-r (
-  skip-blanks-reads.Asked,
-  skip-blanks-reads.Learnt,
+  skip-indent-reads.Asked,
+  skip-indent-reads.Learnt,
   peek-reads.Asked,
   peek-reads.Learnt,
   value-below t,
@@ -190,8 +190,8 @@ array-enum-known-r : (t : ℕ) → array-lts.Need-enum-known-r (
 array-enum-known-r t c = search needs
 
 array-enum-told : (t : ℕ) → array-lts.Need-enum-told (
-  skip-blanks-reads.Asked,
-  skip-blanks-reads.Learnt,
+  skip-indent-reads.Asked,
+  skip-indent-reads.Learnt,
   peek-reads.Asked,
   peek-reads.Learnt,
   value-below t,
@@ -204,8 +204,8 @@ array-enum-told : (t : ℕ) → array-lts.Need-enum-told (
 array-enum-told t c = search needs
 
 array-same-length : (t : ℕ) → array-lts.Need-same-length (
-  skip-blanks-reads.Asked,
-  skip-blanks-reads.Learnt,
+  skip-indent-reads.Asked,
+  skip-indent-reads.Learnt,
   peek-reads.Asked,
   peek-reads.Learnt,
   value-below t,
@@ -218,8 +218,8 @@ array-same-length : (t : ℕ) → array-lts.Need-same-length (
 array-same-length t c = (kept-then (c .before .before .before .before .before .before .before .before .before .loop .inv .places-kept) (c .before .before .before .before .before .before .value .ensures .1 .0)) .long
 
 array-same-length-2 : (t : ℕ) → array-lts.Need-same-length-2 (
-  skip-blanks-reads.Asked,
-  skip-blanks-reads.Learnt,
+  skip-indent-reads.Asked,
+  skip-indent-reads.Learnt,
   peek-reads.Asked,
   peek-reads.Learnt,
   value-below t,
@@ -232,8 +232,8 @@ array-same-length-2 : (t : ℕ) → array-lts.Need-same-length-2 (
 array-same-length-2 t c = (kept-then (c .before .before .before .before .before .before .before .before .before .loop .inv .keys-kept) (c .before .before .before .before .before .before .value .ensures .1 .1)) .long
 
 array-returns-3 : (t : ℕ) → array-lts.Need-returns-3 (
-  skip-blanks-reads.Asked,
-  skip-blanks-reads.Learnt,
+  skip-indent-reads.Asked,
+  skip-indent-reads.Learnt,
   peek-reads.Asked,
   peek-reads.Learnt,
   value-below t,
@@ -243,11 +243,11 @@ array-returns-3 : (t : ℕ) → array-lts.Need-returns-3 (
   after-element-reads.Asked,
   after-element-reads.Learnt,
 ) (array-at t) array.Post array-Inv-loop array-μ-loop
-array-returns-3 t c = (array-told _ _ _ _ _ (c .before .before .before .before .before .before .before .before .before .before .before .before .before .if1 .left) (c .before .before .before .before .before .before .before .before .before .before .before .before .skip-blanks .ensures) (c .before .before .before .before .before .before .before .before .before .before .before .peek .ensures) _ (c .before .before .before .before .before .before .before .before .before .before .if2 .left) (array-stop ((c .before .before .before .before .before .before .before .before .before .before .before .before .before .before .before .before .before .args .depth) - 1) (c .before .before .before .before .before .before .before .before .before .before .before .before .before .before .before .before .before .args .s .now) (c .before .before .before .before .before .before .before .before .before .before .before .before .before .before .before .before .before .args .at) _ (c .before .before .before .before .before .before .before .before .before .before .before .before .before .before .before .before .before .args .used) _ _ (c .before .before .before .before .before .before .before .before .before .loop .places) (c .before .before .before .before .before .before .before .before .before .loop .keys) (c .before .before .before .before .before .before .before .before .before .loop .bad) (c .before .before .before .before .before .before .before .before .before .loop .i) (c .before .before .before .before .before .before .before .before .before .loop .inv) _ (c .before .before .before .before .before .before .value .ensures .0) (c .enum-told .given .1)), (kept-then (c .before .before .before .before .before .before .before .before .before .loop .inv .places-kept) (c .before .before .before .before .before .before .value .ensures .1 .0), kept-then (c .before .before .before .before .before .before .before .before .before .loop .inv .keys-kept) (c .before .before .before .before .before .before .value .ensures .1 .1)))
+array-returns-3 t c = (array-told _ _ _ _ _ (c .before .before .before .before .before .before .before .before .before .before .before .before .before .if1 .left) (c .before .before .before .before .before .before .before .before .before .before .before .before .skip-indent .ensures) (c .before .before .before .before .before .before .before .before .before .before .before .peek .ensures) _ (c .before .before .before .before .before .before .before .before .before .before .if2 .left) (array-stop ((c .before .before .before .before .before .before .before .before .before .before .before .before .before .before .before .before .before .args .depth) - 1) (c .before .before .before .before .before .before .before .before .before .before .before .before .before .before .before .before .before .args .s .now) (c .before .before .before .before .before .before .before .before .before .before .before .before .before .before .before .before .before .args .at) _ (c .before .before .before .before .before .before .before .before .before .before .before .before .before .before .before .before .before .args .used) _ _ (c .before .before .before .before .before .before .before .before .before .loop .places) (c .before .before .before .before .before .before .before .before .before .loop .keys) (c .before .before .before .before .before .before .before .before .before .loop .bad) (c .before .before .before .before .before .before .before .before .before .loop .i) (c .before .before .before .before .before .before .before .before .before .loop .inv) _ (c .before .before .before .before .before .before .value .ensures .0) (c .enum-told .given .1)), (kept-then (c .before .before .before .before .before .before .before .before .before .loop .inv .places-kept) (c .before .before .before .before .before .before .value .ensures .1 .0), kept-then (c .before .before .before .before .before .before .before .before .before .loop .inv .keys-kept) (c .before .before .before .before .before .before .value .ensures .1 .1)))
 
 array-either-requires : (t : ℕ) → array-lts.Need-either-requires (
-  skip-blanks-reads.Asked,
-  skip-blanks-reads.Learnt,
+  skip-indent-reads.Asked,
+  skip-indent-reads.Learnt,
   peek-reads.Asked,
   peek-reads.Learnt,
   value-below t,
@@ -260,8 +260,8 @@ array-either-requires : (t : ℕ) → array-lts.Need-either-requires (
 array-either-requires t c κs = search needs
 
 array-after-element-requires : (t : ℕ) → array-lts.Need-after-element-requires (
-  skip-blanks-reads.Asked,
-  skip-blanks-reads.Learnt,
+  skip-indent-reads.Asked,
+  skip-indent-reads.Learnt,
   peek-reads.Asked,
   peek-reads.Learnt,
   value-below t,
@@ -274,8 +274,8 @@ array-after-element-requires : (t : ℕ) → array-lts.Need-after-element-requir
 array-after-element-requires t c κs = search needs
 
 array-enum-known-a : (t : ℕ) → array-lts.Need-enum-known-a (
-  skip-blanks-reads.Asked,
-  skip-blanks-reads.Learnt,
+  skip-indent-reads.Asked,
+  skip-indent-reads.Learnt,
   peek-reads.Asked,
   peek-reads.Learnt,
   value-below t,
@@ -288,8 +288,8 @@ array-enum-known-a : (t : ℕ) → array-lts.Need-enum-known-a (
 array-enum-known-a t c = search needs
 
 array-loop-less : (t : ℕ) → array-lts.Need-loop-less (
-  skip-blanks-reads.Asked,
-  skip-blanks-reads.Learnt,
+  skip-indent-reads.Asked,
+  skip-indent-reads.Learnt,
   peek-reads.Asked,
   peek-reads.Learnt,
   value-below t,
@@ -302,8 +302,8 @@ array-loop-less : (t : ℕ) → array-lts.Need-loop-less (
 array-loop-less t c = let m = array-less ((c .before .before .before .before .before .before .before .before .before .before .before .before .before .before .before .before .before .before .before .before .before .before .before .args .depth) - 1) (c .before .before .before .before .before .before .before .before .before .before .before .before .before .before .before .before .before .before .before .before .before .before .before .args .s .now) (c .before .before .before .before .before .before .before .before .before .before .before .before .before .before .before .before .before .before .before .before .before .before .before .args .at) _ (c .before .before .before .before .before .before .before .before .before .before .before .before .before .before .before .before .before .before .before .before .before .before .before .args .used) _ _ (c .before .before .before .before .before .before .before .before .before .before .before .before .before .before .before .loop .places) (c .before .before .before .before .before .before .before .before .before .before .before .before .before .before .before .loop .keys) (c .before .before .before .before .before .before .before .before .before .before .before .before .before .before .before .loop .bad) (c .before .before .before .before .before .before .before .before .before .before .before .before .before .before .before .loop .i) (c .before .before .before .before .before .before .before .before .before .before .before .before .before .before .before .loop .inv) _ (c .before .before .before .before .before .before .before .before .before .before .before .before .value .ensures .0) _ _ (c .before .before .before .before .before .before .r .given .1) _ (c .before .before .before .before .either .ensures) _ (c .before .before .before .after-element .ensures) _ (c .before .a .given .1) in omega (arith, m .0, m .1)
 
 array-loop-again : (t : ℕ) → array-lts.Need-loop-again (
-  skip-blanks-reads.Asked,
-  skip-blanks-reads.Learnt,
+  skip-indent-reads.Asked,
+  skip-indent-reads.Learnt,
   peek-reads.Asked,
   peek-reads.Learnt,
   value-below t,
@@ -316,8 +316,8 @@ array-loop-again : (t : ℕ) → array-lts.Need-loop-again (
 array-loop-again t c = array-again ((c .before .before .before .before .before .before .before .before .before .before .before .before .before .before .before .before .before .before .before .before .before .before .before .args .depth) - 1) (c .before .before .before .before .before .before .before .before .before .before .before .before .before .before .before .before .before .before .before .before .before .before .before .args .s .now) (c .before .before .before .before .before .before .before .before .before .before .before .before .before .before .before .before .before .before .before .before .before .before .before .args .at) _ (c .before .before .before .before .before .before .before .before .before .before .before .before .before .before .before .before .before .before .before .before .before .before .before .args .used) _ _ (c .before .before .before .before .before .before .before .before .before .before .before .before .before .before .before .loop .places) (c .before .before .before .before .before .before .before .before .before .before .before .before .before .before .before .loop .keys) (c .before .before .before .before .before .before .before .before .before .before .before .before .before .before .before .loop .bad) (c .before .before .before .before .before .before .before .before .before .before .before .before .before .before .before .loop .i) (c .before .before .before .before .before .before .before .before .before .before .before .before .before .before .before .loop .inv) _ (c .before .before .before .before .before .before .before .before .before .before .before .before .value .ensures .0) _ _ (c .before .before .before .before .before .before .r .given .1) _ (c .before .before .before .before .either .ensures) _ (c .before .before .before .after-element .ensures) _ (c .before .a .given .1) _ _ (c .before .before .before .before .before .before .before .before .before .before .before .before .value .ensures .1 .0) (c .before .before .before .before .before .before .before .before .before .before .before .before .value .ensures .1 .1)
 
 array-enum-known-a-2 : (t : ℕ) → array-lts.Need-enum-known-a-2 (
-  skip-blanks-reads.Asked,
-  skip-blanks-reads.Learnt,
+  skip-indent-reads.Asked,
+  skip-indent-reads.Learnt,
   peek-reads.Asked,
   peek-reads.Learnt,
   value-below t,
@@ -330,8 +330,8 @@ array-enum-known-a-2 : (t : ℕ) → array-lts.Need-enum-known-a-2 (
 array-enum-known-a-2 t c = search needs
 
 array-same-length-3 : (t : ℕ) → array-lts.Need-same-length-3 (
-  skip-blanks-reads.Asked,
-  skip-blanks-reads.Learnt,
+  skip-indent-reads.Asked,
+  skip-indent-reads.Learnt,
   peek-reads.Asked,
   peek-reads.Learnt,
   value-below t,
@@ -344,8 +344,8 @@ array-same-length-3 : (t : ℕ) → array-lts.Need-same-length-3 (
 array-same-length-3 t c = (kept-then (c .before .before .before .before .before .before .before .before .before .before .before .before .before .before .before .loop .inv .places-kept) (c .before .before .before .before .before .before .before .before .before .before .before .before .value .ensures .1 .0)) .long
 
 array-same-length-4 : (t : ℕ) → array-lts.Need-same-length-4 (
-  skip-blanks-reads.Asked,
-  skip-blanks-reads.Learnt,
+  skip-indent-reads.Asked,
+  skip-indent-reads.Learnt,
   peek-reads.Asked,
   peek-reads.Learnt,
   value-below t,
@@ -358,8 +358,8 @@ array-same-length-4 : (t : ℕ) → array-lts.Need-same-length-4 (
 array-same-length-4 t c = (kept-then (c .before .before .before .before .before .before .before .before .before .before .before .before .before .before .before .loop .inv .keys-kept) (c .before .before .before .before .before .before .before .before .before .before .before .before .value .ensures .1 .1)) .long
 
 array-returns-4 : (t : ℕ) → array-lts.Need-returns-4 (
-  skip-blanks-reads.Asked,
-  skip-blanks-reads.Learnt,
+  skip-indent-reads.Asked,
+  skip-indent-reads.Learnt,
   peek-reads.Asked,
   peek-reads.Learnt,
   value-below t,
@@ -369,11 +369,11 @@ array-returns-4 : (t : ℕ) → array-lts.Need-returns-4 (
   after-element-reads.Asked,
   after-element-reads.Learnt,
 ) (array-at t) array.Post array-Inv-loop array-μ-loop
-array-returns-4 t c = (array-told _ _ _ _ _ (c .before .before .before .before .before .before .before .before .before .before .before .before .before .before .before .before .before .before .before .if1 .left) (c .before .before .before .before .before .before .before .before .before .before .before .before .before .before .before .before .before .before .skip-blanks .ensures) (c .before .before .before .before .before .before .before .before .before .before .before .before .before .before .before .before .before .peek .ensures) _ (c .before .before .before .before .before .before .before .before .before .before .before .before .before .before .before .before .if2 .left) (array-close ((c .before .before .before .before .before .before .before .before .before .before .before .before .before .before .before .before .before .before .before .before .before .before .before .args .depth) - 1) (c .before .before .before .before .before .before .before .before .before .before .before .before .before .before .before .before .before .before .before .before .before .before .before .args .s .now) (c .before .before .before .before .before .before .before .before .before .before .before .before .before .before .before .before .before .before .before .before .before .before .before .args .at) _ (c .before .before .before .before .before .before .before .before .before .before .before .before .before .before .before .before .before .before .before .before .before .before .before .args .used) _ _ (c .before .before .before .before .before .before .before .before .before .before .before .before .before .before .before .loop .places) (c .before .before .before .before .before .before .before .before .before .before .before .before .before .before .before .loop .keys) (c .before .before .before .before .before .before .before .before .before .before .before .before .before .before .before .loop .bad) (c .before .before .before .before .before .before .before .before .before .before .before .before .before .before .before .loop .i) (c .before .before .before .before .before .before .before .before .before .before .before .before .before .before .before .loop .inv) _ (c .before .before .before .before .before .before .before .before .before .before .before .before .value .ensures .0) _ _ (c .before .before .before .before .before .before .r .given .1) _ (c .before .before .before .before .either .ensures) _ (c .before .before .before .after-element .ensures) _ (c .before .a2 .given .1)), (kept-then (c .before .before .before .before .before .before .before .before .before .before .before .before .before .before .before .loop .inv .places-kept) (c .before .before .before .before .before .before .before .before .before .before .before .before .value .ensures .1 .0), kept-then (c .before .before .before .before .before .before .before .before .before .before .before .before .before .before .before .loop .inv .keys-kept) (c .before .before .before .before .before .before .before .before .before .before .before .before .value .ensures .1 .1)))
+array-returns-4 t c = (array-told _ _ _ _ _ (c .before .before .before .before .before .before .before .before .before .before .before .before .before .before .before .before .before .before .before .if1 .left) (c .before .before .before .before .before .before .before .before .before .before .before .before .before .before .before .before .before .before .skip-indent .ensures) (c .before .before .before .before .before .before .before .before .before .before .before .before .before .before .before .before .before .peek .ensures) _ (c .before .before .before .before .before .before .before .before .before .before .before .before .before .before .before .before .if2 .left) (array-close ((c .before .before .before .before .before .before .before .before .before .before .before .before .before .before .before .before .before .before .before .before .before .before .before .args .depth) - 1) (c .before .before .before .before .before .before .before .before .before .before .before .before .before .before .before .before .before .before .before .before .before .before .before .args .s .now) (c .before .before .before .before .before .before .before .before .before .before .before .before .before .before .before .before .before .before .before .before .before .before .before .args .at) _ (c .before .before .before .before .before .before .before .before .before .before .before .before .before .before .before .before .before .before .before .before .before .before .before .args .used) _ _ (c .before .before .before .before .before .before .before .before .before .before .before .before .before .before .before .loop .places) (c .before .before .before .before .before .before .before .before .before .before .before .before .before .before .before .loop .keys) (c .before .before .before .before .before .before .before .before .before .before .before .before .before .before .before .loop .bad) (c .before .before .before .before .before .before .before .before .before .before .before .before .before .before .before .loop .i) (c .before .before .before .before .before .before .before .before .before .before .before .before .before .before .before .loop .inv) _ (c .before .before .before .before .before .before .before .before .before .before .before .before .value .ensures .0) _ _ (c .before .before .before .before .before .before .r .given .1) _ (c .before .before .before .before .either .ensures) _ (c .before .before .before .after-element .ensures) _ (c .before .a2 .given .1)), (kept-then (c .before .before .before .before .before .before .before .before .before .before .before .before .before .before .before .loop .inv .places-kept) (c .before .before .before .before .before .before .before .before .before .before .before .before .value .ensures .1 .0), kept-then (c .before .before .before .before .before .before .before .before .before .before .before .before .before .before .before .loop .inv .keys-kept) (c .before .before .before .before .before .before .before .before .before .before .before .before .value .ensures .1 .1)))
 
 array-enum-told-2 : (t : ℕ) → array-lts.Need-enum-told-2 (
-  skip-blanks-reads.Asked,
-  skip-blanks-reads.Learnt,
+  skip-indent-reads.Asked,
+  skip-indent-reads.Learnt,
   peek-reads.Asked,
   peek-reads.Learnt,
   value-below t,
@@ -386,8 +386,8 @@ array-enum-told-2 : (t : ℕ) → array-lts.Need-enum-told-2 (
 array-enum-told-2 t c = search needs
 
 array-same-length-5 : (t : ℕ) → array-lts.Need-same-length-5 (
-  skip-blanks-reads.Asked,
-  skip-blanks-reads.Learnt,
+  skip-indent-reads.Asked,
+  skip-indent-reads.Learnt,
   peek-reads.Asked,
   peek-reads.Learnt,
   value-below t,
@@ -400,8 +400,8 @@ array-same-length-5 : (t : ℕ) → array-lts.Need-same-length-5 (
 array-same-length-5 t c = (kept-then (c .before .before .before .before .before .before .before .before .before .before .before .before .before .before .loop .inv .places-kept) (c .before .before .before .before .before .before .before .before .before .before .before .value .ensures .1 .0)) .long
 
 array-same-length-6 : (t : ℕ) → array-lts.Need-same-length-6 (
-  skip-blanks-reads.Asked,
-  skip-blanks-reads.Learnt,
+  skip-indent-reads.Asked,
+  skip-indent-reads.Learnt,
   peek-reads.Asked,
   peek-reads.Learnt,
   value-below t,
@@ -414,8 +414,8 @@ array-same-length-6 : (t : ℕ) → array-lts.Need-same-length-6 (
 array-same-length-6 t c = (kept-then (c .before .before .before .before .before .before .before .before .before .before .before .before .before .before .loop .inv .keys-kept) (c .before .before .before .before .before .before .before .before .before .before .before .value .ensures .1 .1)) .long
 
 array-returns-5 : (t : ℕ) → array-lts.Need-returns-5 (
-  skip-blanks-reads.Asked,
-  skip-blanks-reads.Learnt,
+  skip-indent-reads.Asked,
+  skip-indent-reads.Learnt,
   peek-reads.Asked,
   peek-reads.Learnt,
   value-below t,
@@ -425,7 +425,7 @@ array-returns-5 : (t : ℕ) → array-lts.Need-returns-5 (
   after-element-reads.Asked,
   after-element-reads.Learnt,
 ) (array-at t) array.Post array-Inv-loop array-μ-loop
-array-returns-5 t c = (array-told _ _ _ _ _ (c .before .before .before .before .before .before .before .before .before .before .before .before .before .before .before .before .before .before .if1 .left) (c .before .before .before .before .before .before .before .before .before .before .before .before .before .before .before .before .before .skip-blanks .ensures) (c .before .before .before .before .before .before .before .before .before .before .before .before .before .before .before .before .peek .ensures) _ (c .before .before .before .before .before .before .before .before .before .before .before .before .before .before .before .if2 .left) (array-bad ((c .before .before .before .before .before .before .before .before .before .before .before .before .before .before .before .before .before .before .before .before .before .before .args .depth) - 1) (c .before .before .before .before .before .before .before .before .before .before .before .before .before .before .before .before .before .before .before .before .before .before .args .s .now) (c .before .before .before .before .before .before .before .before .before .before .before .before .before .before .before .before .before .before .before .before .before .before .args .at) _ (c .before .before .before .before .before .before .before .before .before .before .before .before .before .before .before .before .before .before .before .before .before .before .args .used) _ _ (c .before .before .before .before .before .before .before .before .before .before .before .before .before .before .loop .places) (c .before .before .before .before .before .before .before .before .before .before .before .before .before .before .loop .keys) (c .before .before .before .before .before .before .before .before .before .before .before .before .before .before .loop .bad) (c .before .before .before .before .before .before .before .before .before .before .before .before .before .before .loop .i) (c .before .before .before .before .before .before .before .before .before .before .before .before .before .before .loop .inv) _ (c .before .before .before .before .before .before .before .before .before .before .before .value .ensures .0) _ _ (c .before .before .before .before .before .r .given .1) _ (c .before .before .before .either .ensures) _ (c .before .before .after-element .ensures) (c .enum-told2 .given .1)), (kept-then (c .before .before .before .before .before .before .before .before .before .before .before .before .before .before .loop .inv .places-kept) (c .before .before .before .before .before .before .before .before .before .before .before .value .ensures .1 .0), kept-then (c .before .before .before .before .before .before .before .before .before .before .before .before .before .before .loop .inv .keys-kept) (c .before .before .before .before .before .before .before .before .before .before .before .value .ensures .1 .1)))
+array-returns-5 t c = (array-told _ _ _ _ _ (c .before .before .before .before .before .before .before .before .before .before .before .before .before .before .before .before .before .before .if1 .left) (c .before .before .before .before .before .before .before .before .before .before .before .before .before .before .before .before .before .skip-indent .ensures) (c .before .before .before .before .before .before .before .before .before .before .before .before .before .before .before .before .peek .ensures) _ (c .before .before .before .before .before .before .before .before .before .before .before .before .before .before .before .if2 .left) (array-bad ((c .before .before .before .before .before .before .before .before .before .before .before .before .before .before .before .before .before .before .before .before .before .before .args .depth) - 1) (c .before .before .before .before .before .before .before .before .before .before .before .before .before .before .before .before .before .before .before .before .before .before .args .s .now) (c .before .before .before .before .before .before .before .before .before .before .before .before .before .before .before .before .before .before .before .before .before .before .args .at) _ (c .before .before .before .before .before .before .before .before .before .before .before .before .before .before .before .before .before .before .before .before .before .before .args .used) _ _ (c .before .before .before .before .before .before .before .before .before .before .before .before .before .before .loop .places) (c .before .before .before .before .before .before .before .before .before .before .before .before .before .before .loop .keys) (c .before .before .before .before .before .before .before .before .before .before .before .before .before .before .loop .bad) (c .before .before .before .before .before .before .before .before .before .before .before .before .before .before .loop .i) (c .before .before .before .before .before .before .before .before .before .before .before .before .before .before .loop .inv) _ (c .before .before .before .before .before .before .before .before .before .before .before .value .ensures .0) _ _ (c .before .before .before .before .before .r .given .1) _ (c .before .before .before .either .ensures) _ (c .before .before .after-element .ensures) (c .enum-told2 .given .1)), (kept-then (c .before .before .before .before .before .before .before .before .before .before .before .before .before .before .loop .inv .places-kept) (c .before .before .before .before .before .before .before .before .before .before .before .value .ensures .1 .0), kept-then (c .before .before .before .before .before .before .before .before .before .before .before .before .before .before .loop .inv .keys-kept) (c .before .before .before .before .before .before .before .before .before .before .before .value .ensures .1 .1)))
 
 abbrev object-Inv-loop : object-lts.InvT-loop
 object-Inv-loop s at depth places₀ keys₀ used i₀ b bad₀ n₀ places keys i bad n = ObjectPass (depth - 1) s at i₀ used places₀ keys₀ places keys bad n i
@@ -434,8 +434,8 @@ abbrev object-μ-loop : object-lts.MeasureT-loop
 object-μ-loop s at depth places₀ keys₀ used i₀ b bad₀ n₀ places keys i bad n = length s - i
 
 object-returns : (t : ℕ) → object-lts.Need-returns (
-  skip-blanks-reads.Asked,
-  skip-blanks-reads.Learnt,
+  skip-indent-reads.Asked,
+  skip-indent-reads.Learnt,
   peek-reads.Asked,
   peek-reads.Learnt,
   name-key-reads.Asked,
@@ -451,9 +451,9 @@ object-returns : (t : ℕ) → object-lts.Need-returns (
 ) (object-at t) object.Post object-Inv-loop object-μ-loop
 object-returns t c = (object-zero _ _ _ (c .if1 .taken), (kept-same _ _, kept-same _ _))
 
-object-skip-blanks-requires : (t : ℕ) → object-lts.Need-skip-blanks-requires (
-  skip-blanks-reads.Asked,
-  skip-blanks-reads.Learnt,
+object-skip-indent-requires : (t : ℕ) → object-lts.Need-skip-indent-requires (
+  skip-indent-reads.Asked,
+  skip-indent-reads.Learnt,
   peek-reads.Asked,
   peek-reads.Learnt,
   name-key-reads.Asked,
@@ -467,11 +467,11 @@ object-skip-blanks-requires : (t : ℕ) → object-lts.Need-skip-blanks-requires
   after-member-reads.Asked,
   after-member-reads.Learnt,
 ) (object-at t) object.Post object-Inv-loop object-μ-loop
-object-skip-blanks-requires t c κs = search needs
+object-skip-indent-requires t c κs = search needs
 
 object-peek-requires : (t : ℕ) → object-lts.Need-peek-requires (
-  skip-blanks-reads.Asked,
-  skip-blanks-reads.Learnt,
+  skip-indent-reads.Asked,
+  skip-indent-reads.Learnt,
   peek-reads.Asked,
   peek-reads.Learnt,
   name-key-reads.Asked,
@@ -488,8 +488,8 @@ object-peek-requires : (t : ℕ) → object-lts.Need-peek-requires (
 object-peek-requires t c κs = search needs
 
 object-add-t25 : (t : ℕ) → object-lts.Need-add-t25 (
-  skip-blanks-reads.Asked,
-  skip-blanks-reads.Learnt,
+  skip-indent-reads.Asked,
+  skip-indent-reads.Learnt,
   peek-reads.Asked,
   peek-reads.Learnt,
   name-key-reads.Asked,
@@ -503,11 +503,11 @@ object-add-t25 : (t : ℕ) → object-lts.Need-add-t25 (
   after-member-reads.Asked,
   after-member-reads.Learnt,
 ) (object-at t) object.Post object-Inv-loop object-μ-loop
-object-add-t25 t c = omega (arith, inside (c .before .before .before .before .before .before .before .args .s .now) (c .before .before .skip-blanks .result .at) _ (c .before .peek .ensures) (omega arith))
+object-add-t25 t c = omega (arith, inside (c .before .before .before .before .before .before .before .args .s .now) (c .before .before .skip-indent .result .at) _ (c .before .peek .ensures) (omega arith))
 
 object-returns-2 : (t : ℕ) → object-lts.Need-returns-2 (
-  skip-blanks-reads.Asked,
-  skip-blanks-reads.Learnt,
+  skip-indent-reads.Asked,
+  skip-indent-reads.Learnt,
   peek-reads.Asked,
   peek-reads.Learnt,
   name-key-reads.Asked,
@@ -521,11 +521,11 @@ object-returns-2 : (t : ℕ) → object-lts.Need-returns-2 (
   after-member-reads.Asked,
   after-member-reads.Learnt,
 ) (object-at t) object.Post object-Inv-loop object-μ-loop
-object-returns-2 t c = (object-empty _ _ _ _ _ (c .before .before .before .if1 .left) (c .before .before .skip-blanks .ensures) (c .before .peek .ensures) (c .if2 .taken), (kept-same _ _, kept-same _ _))
+object-returns-2 t c = (object-empty _ _ _ _ _ (c .before .before .before .if1 .left) (c .before .before .skip-indent .ensures) (c .before .peek .ensures) (c .if2 .taken), (kept-same _ _, kept-same _ _))
 
 object-loop-holds : (t : ℕ) → object-lts.Need-loop-holds (
-  skip-blanks-reads.Asked,
-  skip-blanks-reads.Learnt,
+  skip-indent-reads.Asked,
+  skip-indent-reads.Learnt,
   peek-reads.Asked,
   peek-reads.Learnt,
   name-key-reads.Asked,
@@ -539,11 +539,11 @@ object-loop-holds : (t : ℕ) → object-lts.Need-loop-holds (
   after-member-reads.Asked,
   after-member-reads.Learnt,
 ) (object-at t) object.Post object-Inv-loop object-μ-loop
-object-loop-holds t c = object-start _ _ _ _ _ _ _ (c .before .before .skip-blanks .ensures)
+object-loop-holds t c = object-start _ _ _ _ _ _ _ (c .before .before .skip-indent .ensures)
 
 object-name-key-requires : (t : ℕ) → object-lts.Need-name-key-requires (
-  skip-blanks-reads.Asked,
-  skip-blanks-reads.Learnt,
+  skip-indent-reads.Asked,
+  skip-indent-reads.Learnt,
   peek-reads.Asked,
   peek-reads.Learnt,
   name-key-reads.Asked,
@@ -560,8 +560,8 @@ object-name-key-requires : (t : ℕ) → object-lts.Need-name-key-requires (
 object-name-key-requires t c κs = search needs
 
 object-enum-known-k : (t : ℕ) → object-lts.Need-enum-known-k (
-  skip-blanks-reads.Asked,
-  skip-blanks-reads.Learnt,
+  skip-indent-reads.Asked,
+  skip-indent-reads.Learnt,
   peek-reads.Asked,
   peek-reads.Learnt,
   name-key-reads.Asked,
@@ -578,8 +578,8 @@ object-enum-known-k : (t : ℕ) → object-lts.Need-enum-known-k (
 object-enum-known-k t c = search needs
 
 object-enum-told : (t : ℕ) → object-lts.Need-enum-told (
-  skip-blanks-reads.Asked,
-  skip-blanks-reads.Learnt,
+  skip-indent-reads.Asked,
+  skip-indent-reads.Learnt,
   peek-reads.Asked,
   peek-reads.Learnt,
   name-key-reads.Asked,
@@ -596,8 +596,8 @@ object-enum-told : (t : ℕ) → object-lts.Need-enum-told (
 object-enum-told t c = search needs
 
 object-same-length : (t : ℕ) → object-lts.Need-same-length (
-  skip-blanks-reads.Asked,
-  skip-blanks-reads.Learnt,
+  skip-indent-reads.Asked,
+  skip-indent-reads.Learnt,
   peek-reads.Asked,
   peek-reads.Learnt,
   name-key-reads.Asked,
@@ -614,8 +614,8 @@ object-same-length : (t : ℕ) → object-lts.Need-same-length (
 object-same-length t c = (c .before .before .before .loop .inv .places-kept .long)
 
 object-same-length-2 : (t : ℕ) → object-lts.Need-same-length-2 (
-  skip-blanks-reads.Asked,
-  skip-blanks-reads.Learnt,
+  skip-indent-reads.Asked,
+  skip-indent-reads.Learnt,
   peek-reads.Asked,
   peek-reads.Learnt,
   name-key-reads.Asked,
@@ -632,8 +632,8 @@ object-same-length-2 : (t : ℕ) → object-lts.Need-same-length-2 (
 object-same-length-2 t c = (c .before .before .before .loop .inv .keys-kept .long)
 
 object-returns-3 : (t : ℕ) → object-lts.Need-returns-3 (
-  skip-blanks-reads.Asked,
-  skip-blanks-reads.Learnt,
+  skip-indent-reads.Asked,
+  skip-indent-reads.Learnt,
   peek-reads.Asked,
   peek-reads.Learnt,
   name-key-reads.Asked,
@@ -647,11 +647,11 @@ object-returns-3 : (t : ℕ) → object-lts.Need-returns-3 (
   after-member-reads.Asked,
   after-member-reads.Learnt,
 ) (object-at t) object.Post object-Inv-loop object-μ-loop
-object-returns-3 t c = (object-told _ _ _ _ _ (c .before .before .before .before .before .before .before .if1 .left) (c .before .before .before .before .before .before .skip-blanks .ensures) (c .before .before .before .before .before .peek .ensures) _ (c .before .before .before .before .if2 .left) (object-nameless ((c .before .before .before .before .before .before .before .before .before .before .before .args .depth) - 1) (c .before .before .before .before .before .before .before .before .before .before .before .args .s .now) (c .before .before .before .before .before .before .before .before .before .before .before .args .at) _ (c .before .before .before .before .before .before .before .before .before .before .before .args .used) _ _ (c .before .before .before .loop .places) (c .before .before .before .loop .keys) (c .before .before .before .loop .bad) (c .before .before .before .loop .n) (c .before .before .before .loop .i) (c .before .before .before .loop .inv) _ (c .before .before .name-key .ensures) (c .enum-told .given .1)), ((c .before .before .before .loop .inv .places-kept), (c .before .before .before .loop .inv .keys-kept)))
+object-returns-3 t c = (object-told _ _ _ _ _ (c .before .before .before .before .before .before .before .if1 .left) (c .before .before .before .before .before .before .skip-indent .ensures) (c .before .before .before .before .before .peek .ensures) _ (c .before .before .before .before .if2 .left) (object-nameless ((c .before .before .before .before .before .before .before .before .before .before .before .args .depth) - 1) (c .before .before .before .before .before .before .before .before .before .before .before .args .s .now) (c .before .before .before .before .before .before .before .before .before .before .before .args .at) _ (c .before .before .before .before .before .before .before .before .before .before .before .args .used) _ _ (c .before .before .before .loop .places) (c .before .before .before .loop .keys) (c .before .before .before .loop .bad) (c .before .before .before .loop .n) (c .before .before .before .loop .i) (c .before .before .before .loop .inv) _ (c .before .before .name-key .ensures) (c .enum-told .given .1)), ((c .before .before .before .loop .inv .places-kept), (c .before .before .before .loop .inv .keys-kept)))
 
 object-add-keep-name : (t : ℕ) → object-lts.Need-add-keep-name (
-  skip-blanks-reads.Asked,
-  skip-blanks-reads.Learnt,
+  skip-indent-reads.Asked,
+  skip-indent-reads.Learnt,
   peek-reads.Asked,
   peek-reads.Learnt,
   name-key-reads.Asked,
@@ -668,8 +668,8 @@ object-add-keep-name : (t : ℕ) → object-lts.Need-add-keep-name (
 object-add-keep-name t c = omega (arith, name-far (c .before .before .before .before .before .before .before .before .before .before .before .before .args .s .now) (c .before .before .before .before .loop .i) _ (c .before .before .before .name-key .ensures) _ _ (c .before .k .given .1) .0)
 
 object-keep-name-requires : (t : ℕ) → object-lts.Need-keep-name-requires (
-  skip-blanks-reads.Asked,
-  skip-blanks-reads.Learnt,
+  skip-indent-reads.Asked,
+  skip-indent-reads.Learnt,
   peek-reads.Asked,
   peek-reads.Learnt,
   name-key-reads.Asked,
@@ -686,8 +686,8 @@ object-keep-name-requires : (t : ℕ) → object-lts.Need-keep-name-requires (
 object-keep-name-requires t c κs = (name-keyed (c .before .before .before .before .before .before .before .before .before .before .before .before .before .before .args .s .now) (c .before .before .before .before .before .before .loop .i) _ (c .before .before .before .before .before .name-key .ensures) _ _ (c .before .before .before .k .given .1), ((λ h. omega (arith, (c .before .before .before .before .before .before .before .before .before .before .if1 .left), (c .before .before .before .before .before .before .loop .inv .forward), (c .before .before .before .before .before .before .before .before .before .before .before .before .before .before .pre .1 .0), (c .before .before .before .before .before .before .loop .inv .places-kept .long), name-far (c .before .before .before .before .before .before .before .before .before .before .before .before .before .before .args .s .now) (c .before .before .before .before .before .before .loop .i) _ (c .before .before .before .before .before .name-key .ensures) _ _ (c .before .before .before .k .given .1) .0)), ((λ h. omega (arith, (c .before .before .before .before .before .before .before .before .before .before .if1 .left), (c .before .before .before .before .before .before .loop .inv .forward), (c .before .before .before .before .before .before .before .before .before .before .before .before .before .before .pre .1 .1), (c .before .before .before .before .before .before .loop .inv .keys-kept .long), name-far (c .before .before .before .before .before .before .before .before .before .before .before .before .before .before .args .s .now) (c .before .before .before .before .before .before .loop .i) _ (c .before .before .before .before .before .name-key .ensures) _ _ (c .before .before .before .k .given .1) .0)), ((c .before .before .before .before .before .before .loop .inv .few), (c .before .before .before .before .before .before .loop .inv .agree)))))
 
 object-sub-value : (t : ℕ) → object-lts.Need-sub-value (
-  skip-blanks-reads.Asked,
-  skip-blanks-reads.Learnt,
+  skip-indent-reads.Asked,
+  skip-indent-reads.Learnt,
   peek-reads.Asked,
   peek-reads.Learnt,
   name-key-reads.Asked,
@@ -704,8 +704,8 @@ object-sub-value : (t : ℕ) → object-lts.Need-sub-value (
 object-sub-value t c = omega arith
 
 object-add-value : (t : ℕ) → object-lts.Need-add-value (
-  skip-blanks-reads.Asked,
-  skip-blanks-reads.Learnt,
+  skip-indent-reads.Asked,
+  skip-indent-reads.Learnt,
   peek-reads.Asked,
   peek-reads.Learnt,
   name-key-reads.Asked,
@@ -722,8 +722,8 @@ object-add-value : (t : ℕ) → object-lts.Need-add-value (
 object-add-value t c = let g = (c .before .before .before .before .before .before .before .before .before .before .before .before .before .before .before .before .before .before .before .before .before .good) in omega (arith, (c .before .before .before .before .before .before .before .before .before .before .before .before .before .before .before .before .before .before .before .before .before .pre .1 .0), (c .before .before .before .before .before .before .before .before .before .before .before .before .before .loop .inv .places-kept .long), (kept-places _ _ _ _ _ _ (c .before .before .before .before .before .before .keep-name .ensures)) .long, kept-most _ _ _ _ _ _ (c .before .before .before .before .before .before .keep-name .ensures), kept-few _ _ _ _ _ _ (c .before .before .before .before .before .before .keep-name .ensures) (c .before .before .before .before .before .before .before .before .before .before .before .before .before .loop .inv .few), name-far (c .before .before .before .before .before .before .before .before .before .before .before .before .before .before .before .before .before .before .before .before .before .args .s .now) (c .before .before .before .before .before .before .before .before .before .before .before .before .before .loop .i) _ (c .before .before .before .before .before .before .before .before .before .before .before .before .name-key .ensures) _ _ (c .before .before .before .before .before .before .before .before .before .before .k .given .1) .0, name-far (c .before .before .before .before .before .before .before .before .before .before .before .before .before .before .before .before .before .before .before .before .before .args .s .now) (c .before .before .before .before .before .before .before .before .before .before .before .before .before .loop .i) _ (c .before .before .before .before .before .before .before .before .before .before .before .before .name-key .ensures) _ _ (c .before .before .before .before .before .before .before .before .before .before .k .given .1) .1, (c .before .before .before .before .before .before .before .before .before .before .before .before .before .loop .inv .forward), (c .before .before .before .before .before .before .before .before .before .before .before .before .before .before .before .before .before .if1 .left))
 
 object-value-requires : (t : ℕ) → object-lts.Need-value-requires (
-  skip-blanks-reads.Asked,
-  skip-blanks-reads.Learnt,
+  skip-indent-reads.Asked,
+  skip-indent-reads.Learnt,
   peek-reads.Asked,
   peek-reads.Learnt,
   name-key-reads.Asked,
@@ -740,8 +740,8 @@ object-value-requires : (t : ℕ) → object-lts.Need-value-requires (
 object-value-requires t c κs = (omega (arith, (c .before .before .before .before .before .before .before .before .before .before .before .before .before .before .before .before .before .before .before .before .before .pre .0), kept-most _ _ _ _ _ _ (c .before .before .before .before .before .before .keep-name .ensures), kept-few _ _ _ _ _ _ (c .before .before .before .before .before .before .keep-name .ensures) (c .before .before .before .before .before .before .before .before .before .before .before .before .before .loop .inv .few), name-far (c .before .before .before .before .before .before .before .before .before .before .before .before .before .before .before .before .before .before .before .before .before .args .s .now) (c .before .before .before .before .before .before .before .before .before .before .before .before .before .loop .i) _ (c .before .before .before .before .before .before .before .before .before .before .before .before .name-key .ensures) _ _ (c .before .before .before .before .before .before .before .before .before .before .k .given .1) .0, name-far (c .before .before .before .before .before .before .before .before .before .before .before .before .before .before .before .before .before .before .before .before .before .args .s .now) (c .before .before .before .before .before .before .before .before .before .before .before .before .before .loop .i) _ (c .before .before .before .before .before .before .before .before .before .before .before .before .name-key .ensures) _ _ (c .before .before .before .before .before .before .before .before .before .before .k .given .1) .1, (c .before .before .before .before .before .before .before .before .before .before .before .before .before .loop .inv .forward), (c .before .before .before .before .before .before .before .before .before .before .before .before .before .before .before .before .before .if1 .left)), (omega (arith, (c .before .before .before .before .before .before .before .before .before .before .before .before .before .before .before .before .before .before .before .before .before .pre .1 .0), (c .before .before .before .before .before .before .before .before .before .before .before .before .before .loop .inv .places-kept .long), (kept-places _ _ _ _ _ _ (c .before .before .before .before .before .before .keep-name .ensures)) .long, kept-most _ _ _ _ _ _ (c .before .before .before .before .before .before .keep-name .ensures), kept-few _ _ _ _ _ _ (c .before .before .before .before .before .before .keep-name .ensures) (c .before .before .before .before .before .before .before .before .before .before .before .before .before .loop .inv .few), name-far (c .before .before .before .before .before .before .before .before .before .before .before .before .before .before .before .before .before .before .before .before .before .args .s .now) (c .before .before .before .before .before .before .before .before .before .before .before .before .before .loop .i) _ (c .before .before .before .before .before .before .before .before .before .before .before .before .name-key .ensures) _ _ (c .before .before .before .before .before .before .before .before .before .before .k .given .1) .0, name-far (c .before .before .before .before .before .before .before .before .before .before .before .before .before .before .before .before .before .before .before .before .before .args .s .now) (c .before .before .before .before .before .before .before .before .before .before .before .before .before .loop .i) _ (c .before .before .before .before .before .before .before .before .before .before .before .before .name-key .ensures) _ _ (c .before .before .before .before .before .before .before .before .before .before .k .given .1) .1, (c .before .before .before .before .before .before .before .before .before .before .before .before .before .loop .inv .forward), (c .before .before .before .before .before .before .before .before .before .before .before .before .before .before .before .before .before .if1 .left)), omega (arith, (c .before .before .before .before .before .before .before .before .before .before .before .before .before .before .before .before .before .before .before .before .before .pre .1 .1), (c .before .before .before .before .before .before .before .before .before .before .before .before .before .loop .inv .keys-kept .long), (kept-keys _ _ _ _ _ _ (c .before .before .before .before .before .before .keep-name .ensures)) .long, kept-most _ _ _ _ _ _ (c .before .before .before .before .before .before .keep-name .ensures), kept-few _ _ _ _ _ _ (c .before .before .before .before .before .before .keep-name .ensures) (c .before .before .before .before .before .before .before .before .before .before .before .before .before .loop .inv .few), name-far (c .before .before .before .before .before .before .before .before .before .before .before .before .before .before .before .before .before .before .before .before .before .args .s .now) (c .before .before .before .before .before .before .before .before .before .before .before .before .before .loop .i) _ (c .before .before .before .before .before .before .before .before .before .before .before .before .name-key .ensures) _ _ (c .before .before .before .before .before .before .before .before .before .before .k .given .1) .0, name-far (c .before .before .before .before .before .before .before .before .before .before .before .before .before .before .before .before .before .before .before .before .before .args .s .now) (c .before .before .before .before .before .before .before .before .before .before .before .before .before .loop .i) _ (c .before .before .before .before .before .before .before .before .before .before .before .before .name-key .ensures) _ _ (c .before .before .before .before .before .before .before .before .before .before .k .given .1) .1, (c .before .before .before .before .before .before .before .before .before .before .before .before .before .loop .inv .forward), (c .before .before .before .before .before .before .before .before .before .before .before .before .before .before .before .before .before .if1 .left))))
 
 object-enum-known-r : (t : ℕ) → object-lts.Need-enum-known-r (
-  skip-blanks-reads.Asked,
-  skip-blanks-reads.Learnt,
+  skip-indent-reads.Asked,
+  skip-indent-reads.Learnt,
   peek-reads.Asked,
   peek-reads.Learnt,
   name-key-reads.Asked,
@@ -758,8 +758,8 @@ object-enum-known-r : (t : ℕ) → object-lts.Need-enum-known-r (
 object-enum-known-r t c = search needs
 
 object-enum-told-2 : (t : ℕ) → object-lts.Need-enum-told-2 (
-  skip-blanks-reads.Asked,
-  skip-blanks-reads.Learnt,
+  skip-indent-reads.Asked,
+  skip-indent-reads.Learnt,
   peek-reads.Asked,
   peek-reads.Learnt,
   name-key-reads.Asked,
@@ -776,8 +776,8 @@ object-enum-told-2 : (t : ℕ) → object-lts.Need-enum-told-2 (
 object-enum-told-2 t c = search needs
 
 object-same-length-3 : (t : ℕ) → object-lts.Need-same-length-3 (
-  skip-blanks-reads.Asked,
-  skip-blanks-reads.Learnt,
+  skip-indent-reads.Asked,
+  skip-indent-reads.Learnt,
   peek-reads.Asked,
   peek-reads.Learnt,
   name-key-reads.Asked,
@@ -794,8 +794,8 @@ object-same-length-3 : (t : ℕ) → object-lts.Need-same-length-3 (
 object-same-length-3 t c = (kept-then (c .before .before .before .before .before .before .before .before .before .before .before .before .before .before .before .before .before .before .before .before .loop .inv .places-kept) (kept-then (kept-places _ _ _ _ _ _ (c .before .before .before .before .before .before .before .before .before .before .before .before .before .keep-name .ensures)) (kept-less (omega arith) (c .before .before .before .before .before .before .value .ensures .1 .0)))) .long
 
 object-same-length-4 : (t : ℕ) → object-lts.Need-same-length-4 (
-  skip-blanks-reads.Asked,
-  skip-blanks-reads.Learnt,
+  skip-indent-reads.Asked,
+  skip-indent-reads.Learnt,
   peek-reads.Asked,
   peek-reads.Learnt,
   name-key-reads.Asked,
@@ -812,8 +812,8 @@ object-same-length-4 : (t : ℕ) → object-lts.Need-same-length-4 (
 object-same-length-4 t c = (kept-then (c .before .before .before .before .before .before .before .before .before .before .before .before .before .before .before .before .before .before .before .before .loop .inv .keys-kept) (kept-then (kept-keys _ _ _ _ _ _ (c .before .before .before .before .before .before .before .before .before .before .before .before .before .keep-name .ensures)) (kept-less (omega arith) (c .before .before .before .before .before .before .value .ensures .1 .1)))) .long
 
 object-returns-4 : (t : ℕ) → object-lts.Need-returns-4 (
-  skip-blanks-reads.Asked,
-  skip-blanks-reads.Learnt,
+  skip-indent-reads.Asked,
+  skip-indent-reads.Learnt,
   peek-reads.Asked,
   peek-reads.Learnt,
   name-key-reads.Asked,
@@ -827,11 +827,11 @@ object-returns-4 : (t : ℕ) → object-lts.Need-returns-4 (
   after-member-reads.Asked,
   after-member-reads.Learnt,
 ) (object-at t) object.Post object-Inv-loop object-μ-loop
-object-returns-4 t c = (object-told _ _ _ _ _ (c .before .before .before .before .before .before .before .before .before .before .before .before .before .before .before .before .before .before .before .before .before .before .before .before .if1 .left) (c .before .before .before .before .before .before .before .before .before .before .before .before .before .before .before .before .before .before .before .before .before .before .before .skip-blanks .ensures) (c .before .before .before .before .before .before .before .before .before .before .before .before .before .before .before .before .before .before .before .before .before .before .peek .ensures) _ (c .before .before .before .before .before .before .before .before .before .before .before .before .before .before .before .before .before .before .before .before .before .if2 .left) (object-stop ((c .before .before .before .before .before .before .before .before .before .before .before .before .before .before .before .before .before .before .before .before .before .before .before .before .before .before .before .before .args .depth) - 1) (c .before .before .before .before .before .before .before .before .before .before .before .before .before .before .before .before .before .before .before .before .before .before .before .before .before .before .before .before .args .s .now) (c .before .before .before .before .before .before .before .before .before .before .before .before .before .before .before .before .before .before .before .before .before .before .before .before .before .before .before .before .args .at) _ (c .before .before .before .before .before .before .before .before .before .before .before .before .before .before .before .before .before .before .before .before .before .before .before .before .before .before .before .before .args .used) _ _ (c .before .before .before .before .before .before .before .before .before .before .before .before .before .before .before .before .before .before .before .before .loop .places) (c .before .before .before .before .before .before .before .before .before .before .before .before .before .before .before .before .before .before .before .before .loop .keys) (c .before .before .before .before .before .before .before .before .before .before .before .before .before .before .before .before .before .before .before .before .loop .bad) (c .before .before .before .before .before .before .before .before .before .before .before .before .before .before .before .before .before .before .before .before .loop .n) (c .before .before .before .before .before .before .before .before .before .before .before .before .before .before .before .before .before .before .before .before .loop .i) (c .before .before .before .before .before .before .before .before .before .before .before .before .before .before .before .before .before .before .before .before .loop .inv) _ (c .before .before .before .before .before .before .before .before .before .before .before .before .before .before .before .before .before .before .before .name-key .ensures) _ _ (c .before .before .before .before .before .before .before .before .before .before .before .before .before .before .before .before .before .k .given .1) _ _ _ (c .before .before .before .before .before .before .before .before .before .before .before .before .before .keep-name .ensures) (λ h. omega (arith, (c .before .before .before .before .before .before .before .before .before .before .before .before .before .before .before .before .before .before .before .before .before .before .before .before .if1 .left), (c .before .before .before .before .before .before .before .before .before .before .before .before .before .before .before .before .before .before .before .before .loop .inv .forward), (c .before .before .before .before .before .before .before .before .before .before .before .before .before .before .before .before .before .before .before .before .before .before .before .before .before .before .before .before .pre .1 .0), (c .before .before .before .before .before .before .before .before .before .before .before .before .before .before .before .before .before .before .before .before .loop .inv .places-kept .long), name-far (c .before .before .before .before .before .before .before .before .before .before .before .before .before .before .before .before .before .before .before .before .before .before .before .before .before .before .before .before .args .s .now) (c .before .before .before .before .before .before .before .before .before .before .before .before .before .before .before .before .before .before .before .before .loop .i) _ (c .before .before .before .before .before .before .before .before .before .before .before .before .before .before .before .before .before .before .before .name-key .ensures) _ _ (c .before .before .before .before .before .before .before .before .before .before .before .before .before .before .before .before .before .k .given .1) .0)) (λ h. omega (arith, (c .before .before .before .before .before .before .before .before .before .before .before .before .before .before .before .before .before .before .before .before .before .before .before .before .if1 .left), (c .before .before .before .before .before .before .before .before .before .before .before .before .before .before .before .before .before .before .before .before .loop .inv .forward), (c .before .before .before .before .before .before .before .before .before .before .before .before .before .before .before .before .before .before .before .before .before .before .before .before .before .before .before .before .pre .1 .1), (c .before .before .before .before .before .before .before .before .before .before .before .before .before .before .before .before .before .before .before .before .loop .inv .keys-kept .long), name-far (c .before .before .before .before .before .before .before .before .before .before .before .before .before .before .before .before .before .before .before .before .before .before .before .before .before .before .before .before .args .s .now) (c .before .before .before .before .before .before .before .before .before .before .before .before .before .before .before .before .before .before .before .before .loop .i) _ (c .before .before .before .before .before .before .before .before .before .before .before .before .before .before .before .before .before .before .before .name-key .ensures) _ _ (c .before .before .before .before .before .before .before .before .before .before .before .before .before .before .before .before .before .k .given .1) .0)) _ (c .before .before .before .before .before .before .value .ensures .0) (c .enum-told2 .given .1)), (kept-then (c .before .before .before .before .before .before .before .before .before .before .before .before .before .before .before .before .before .before .before .before .loop .inv .places-kept) (kept-then (kept-places _ _ _ _ _ _ (c .before .before .before .before .before .before .before .before .before .before .before .before .before .keep-name .ensures)) (kept-less (omega arith) (c .before .before .before .before .before .before .value .ensures .1 .0))), kept-then (c .before .before .before .before .before .before .before .before .before .before .before .before .before .before .before .before .before .before .before .before .loop .inv .keys-kept) (kept-then (kept-keys _ _ _ _ _ _ (c .before .before .before .before .before .before .before .before .before .before .before .before .before .keep-name .ensures)) (kept-less (omega arith) (c .before .before .before .before .before .before .value .ensures .1 .1)))))
+object-returns-4 t c = (object-told _ _ _ _ _ (c .before .before .before .before .before .before .before .before .before .before .before .before .before .before .before .before .before .before .before .before .before .before .before .before .if1 .left) (c .before .before .before .before .before .before .before .before .before .before .before .before .before .before .before .before .before .before .before .before .before .before .before .skip-indent .ensures) (c .before .before .before .before .before .before .before .before .before .before .before .before .before .before .before .before .before .before .before .before .before .before .peek .ensures) _ (c .before .before .before .before .before .before .before .before .before .before .before .before .before .before .before .before .before .before .before .before .before .if2 .left) (object-stop ((c .before .before .before .before .before .before .before .before .before .before .before .before .before .before .before .before .before .before .before .before .before .before .before .before .before .before .before .before .args .depth) - 1) (c .before .before .before .before .before .before .before .before .before .before .before .before .before .before .before .before .before .before .before .before .before .before .before .before .before .before .before .before .args .s .now) (c .before .before .before .before .before .before .before .before .before .before .before .before .before .before .before .before .before .before .before .before .before .before .before .before .before .before .before .before .args .at) _ (c .before .before .before .before .before .before .before .before .before .before .before .before .before .before .before .before .before .before .before .before .before .before .before .before .before .before .before .before .args .used) _ _ (c .before .before .before .before .before .before .before .before .before .before .before .before .before .before .before .before .before .before .before .before .loop .places) (c .before .before .before .before .before .before .before .before .before .before .before .before .before .before .before .before .before .before .before .before .loop .keys) (c .before .before .before .before .before .before .before .before .before .before .before .before .before .before .before .before .before .before .before .before .loop .bad) (c .before .before .before .before .before .before .before .before .before .before .before .before .before .before .before .before .before .before .before .before .loop .n) (c .before .before .before .before .before .before .before .before .before .before .before .before .before .before .before .before .before .before .before .before .loop .i) (c .before .before .before .before .before .before .before .before .before .before .before .before .before .before .before .before .before .before .before .before .loop .inv) _ (c .before .before .before .before .before .before .before .before .before .before .before .before .before .before .before .before .before .before .before .name-key .ensures) _ _ (c .before .before .before .before .before .before .before .before .before .before .before .before .before .before .before .before .before .k .given .1) _ _ _ (c .before .before .before .before .before .before .before .before .before .before .before .before .before .keep-name .ensures) (λ h. omega (arith, (c .before .before .before .before .before .before .before .before .before .before .before .before .before .before .before .before .before .before .before .before .before .before .before .before .if1 .left), (c .before .before .before .before .before .before .before .before .before .before .before .before .before .before .before .before .before .before .before .before .loop .inv .forward), (c .before .before .before .before .before .before .before .before .before .before .before .before .before .before .before .before .before .before .before .before .before .before .before .before .before .before .before .before .pre .1 .0), (c .before .before .before .before .before .before .before .before .before .before .before .before .before .before .before .before .before .before .before .before .loop .inv .places-kept .long), name-far (c .before .before .before .before .before .before .before .before .before .before .before .before .before .before .before .before .before .before .before .before .before .before .before .before .before .before .before .before .args .s .now) (c .before .before .before .before .before .before .before .before .before .before .before .before .before .before .before .before .before .before .before .before .loop .i) _ (c .before .before .before .before .before .before .before .before .before .before .before .before .before .before .before .before .before .before .before .name-key .ensures) _ _ (c .before .before .before .before .before .before .before .before .before .before .before .before .before .before .before .before .before .k .given .1) .0)) (λ h. omega (arith, (c .before .before .before .before .before .before .before .before .before .before .before .before .before .before .before .before .before .before .before .before .before .before .before .before .if1 .left), (c .before .before .before .before .before .before .before .before .before .before .before .before .before .before .before .before .before .before .before .before .loop .inv .forward), (c .before .before .before .before .before .before .before .before .before .before .before .before .before .before .before .before .before .before .before .before .before .before .before .before .before .before .before .before .pre .1 .1), (c .before .before .before .before .before .before .before .before .before .before .before .before .before .before .before .before .before .before .before .before .loop .inv .keys-kept .long), name-far (c .before .before .before .before .before .before .before .before .before .before .before .before .before .before .before .before .before .before .before .before .before .before .before .before .before .before .before .before .args .s .now) (c .before .before .before .before .before .before .before .before .before .before .before .before .before .before .before .before .before .before .before .before .loop .i) _ (c .before .before .before .before .before .before .before .before .before .before .before .before .before .before .before .before .before .before .before .name-key .ensures) _ _ (c .before .before .before .before .before .before .before .before .before .before .before .before .before .before .before .before .before .k .given .1) .0)) _ (c .before .before .before .before .before .before .value .ensures .0) (c .enum-told2 .given .1)), (kept-then (c .before .before .before .before .before .before .before .before .before .before .before .before .before .before .before .before .before .before .before .before .loop .inv .places-kept) (kept-then (kept-places _ _ _ _ _ _ (c .before .before .before .before .before .before .before .before .before .before .before .before .before .keep-name .ensures)) (kept-less (omega arith) (c .before .before .before .before .before .before .value .ensures .1 .0))), kept-then (c .before .before .before .before .before .before .before .before .before .before .before .before .before .before .before .before .before .before .before .before .loop .inv .keys-kept) (kept-then (kept-keys _ _ _ _ _ _ (c .before .before .before .before .before .before .before .before .before .before .before .before .before .keep-name .ensures)) (kept-less (omega arith) (c .before .before .before .before .before .before .value .ensures .1 .1)))))
 
 object-either-requires : (t : ℕ) → object-lts.Need-either-requires (
-  skip-blanks-reads.Asked,
-  skip-blanks-reads.Learnt,
+  skip-indent-reads.Asked,
+  skip-indent-reads.Learnt,
   peek-reads.Asked,
   peek-reads.Learnt,
   name-key-reads.Asked,
@@ -848,8 +848,8 @@ object-either-requires : (t : ℕ) → object-lts.Need-either-requires (
 object-either-requires t c κs = search needs
 
 object-after-member-requires : (t : ℕ) → object-lts.Need-after-member-requires (
-  skip-blanks-reads.Asked,
-  skip-blanks-reads.Learnt,
+  skip-indent-reads.Asked,
+  skip-indent-reads.Learnt,
   peek-reads.Asked,
   peek-reads.Learnt,
   name-key-reads.Asked,
@@ -866,8 +866,8 @@ object-after-member-requires : (t : ℕ) → object-lts.Need-after-member-requir
 object-after-member-requires t c κs = search needs
 
 object-enum-known-a : (t : ℕ) → object-lts.Need-enum-known-a (
-  skip-blanks-reads.Asked,
-  skip-blanks-reads.Learnt,
+  skip-indent-reads.Asked,
+  skip-indent-reads.Learnt,
   peek-reads.Asked,
   peek-reads.Learnt,
   name-key-reads.Asked,
@@ -884,8 +884,8 @@ object-enum-known-a : (t : ℕ) → object-lts.Need-enum-known-a (
 object-enum-known-a t c = search needs
 
 object-loop-less : (t : ℕ) → object-lts.Need-loop-less (
-  skip-blanks-reads.Asked,
-  skip-blanks-reads.Learnt,
+  skip-indent-reads.Asked,
+  skip-indent-reads.Learnt,
   peek-reads.Asked,
   peek-reads.Learnt,
   name-key-reads.Asked,
@@ -902,8 +902,8 @@ object-loop-less : (t : ℕ) → object-lts.Need-loop-less (
 object-loop-less t c = let m = object-less ((c .before .before .before .before .before .before .before .before .before .before .before .before .before .before .before .before .before .before .before .before .before .before .before .before .before .before .before .before .before .before .before .before .before .before .args .depth) - 1) (c .before .before .before .before .before .before .before .before .before .before .before .before .before .before .before .before .before .before .before .before .before .before .before .before .before .before .before .before .before .before .before .before .before .before .args .s .now) (c .before .before .before .before .before .before .before .before .before .before .before .before .before .before .before .before .before .before .before .before .before .before .before .before .before .before .before .before .before .before .before .before .before .before .args .at) _ (c .before .before .before .before .before .before .before .before .before .before .before .before .before .before .before .before .before .before .before .before .before .before .before .before .before .before .before .before .before .before .before .before .before .before .args .used) _ _ (c .before .before .before .before .before .before .before .before .before .before .before .before .before .before .before .before .before .before .before .before .before .before .before .before .before .before .loop .places) (c .before .before .before .before .before .before .before .before .before .before .before .before .before .before .before .before .before .before .before .before .before .before .before .before .before .before .loop .keys) (c .before .before .before .before .before .before .before .before .before .before .before .before .before .before .before .before .before .before .before .before .before .before .before .before .before .before .loop .bad) (c .before .before .before .before .before .before .before .before .before .before .before .before .before .before .before .before .before .before .before .before .before .before .before .before .before .before .loop .n) (c .before .before .before .before .before .before .before .before .before .before .before .before .before .before .before .before .before .before .before .before .before .before .before .before .before .before .loop .i) (c .before .before .before .before .before .before .before .before .before .before .before .before .before .before .before .before .before .before .before .before .before .before .before .before .before .before .loop .inv) _ (c .before .before .before .before .before .before .before .before .before .before .before .before .before .before .before .before .before .before .before .before .before .before .before .before .before .name-key .ensures) _ _ (c .before .before .before .before .before .before .before .before .before .before .before .before .before .before .before .before .before .before .before .before .before .before .before .k .given .1) _ _ _ (c .before .before .before .before .before .before .before .before .before .before .before .before .before .before .before .before .before .before .before .keep-name .ensures) (λ h. omega (arith, (c .before .before .before .before .before .before .before .before .before .before .before .before .before .before .before .before .before .before .before .before .before .before .before .before .before .before .before .before .before .before .if1 .left), (c .before .before .before .before .before .before .before .before .before .before .before .before .before .before .before .before .before .before .before .before .before .before .before .before .before .before .loop .inv .forward), (c .before .before .before .before .before .before .before .before .before .before .before .before .before .before .before .before .before .before .before .before .before .before .before .before .before .before .before .before .before .before .before .before .before .before .pre .1 .0), (c .before .before .before .before .before .before .before .before .before .before .before .before .before .before .before .before .before .before .before .before .before .before .before .before .before .before .loop .inv .places-kept .long), name-far (c .before .before .before .before .before .before .before .before .before .before .before .before .before .before .before .before .before .before .before .before .before .before .before .before .before .before .before .before .before .before .before .before .before .before .args .s .now) (c .before .before .before .before .before .before .before .before .before .before .before .before .before .before .before .before .before .before .before .before .before .before .before .before .before .before .loop .i) _ (c .before .before .before .before .before .before .before .before .before .before .before .before .before .before .before .before .before .before .before .before .before .before .before .before .before .name-key .ensures) _ _ (c .before .before .before .before .before .before .before .before .before .before .before .before .before .before .before .before .before .before .before .before .before .before .before .k .given .1) .0)) (λ h. omega (arith, (c .before .before .before .before .before .before .before .before .before .before .before .before .before .before .before .before .before .before .before .before .before .before .before .before .before .before .before .before .before .before .if1 .left), (c .before .before .before .before .before .before .before .before .before .before .before .before .before .before .before .before .before .before .before .before .before .before .before .before .before .before .loop .inv .forward), (c .before .before .before .before .before .before .before .before .before .before .before .before .before .before .before .before .before .before .before .before .before .before .before .before .before .before .before .before .before .before .before .before .before .before .pre .1 .1), (c .before .before .before .before .before .before .before .before .before .before .before .before .before .before .before .before .before .before .before .before .before .before .before .before .before .before .loop .inv .keys-kept .long), name-far (c .before .before .before .before .before .before .before .before .before .before .before .before .before .before .before .before .before .before .before .before .before .before .before .before .before .before .before .before .before .before .before .before .before .before .args .s .now) (c .before .before .before .before .before .before .before .before .before .before .before .before .before .before .before .before .before .before .before .before .before .before .before .before .before .before .loop .i) _ (c .before .before .before .before .before .before .before .before .before .before .before .before .before .before .before .before .before .before .before .before .before .before .before .before .before .name-key .ensures) _ _ (c .before .before .before .before .before .before .before .before .before .before .before .before .before .before .before .before .before .before .before .before .before .before .before .k .given .1) .0)) _ (c .before .before .before .before .before .before .before .before .before .before .before .before .value .ensures .0) _ _ (c .before .before .before .before .before .before .r .given .1) _ (c .before .before .before .before .either .ensures) _ (c .before .before .before .after-member .ensures) _ (c .before .before .before .before .before .before .before .before .before .before .before .before .value .ensures .1 .0) _ (c .before .a .given .1) in omega (arith, m .0, m .1)
 
 object-loop-again : (t : ℕ) → object-lts.Need-loop-again (
-  skip-blanks-reads.Asked,
-  skip-blanks-reads.Learnt,
+  skip-indent-reads.Asked,
+  skip-indent-reads.Learnt,
   peek-reads.Asked,
   peek-reads.Learnt,
   name-key-reads.Asked,
@@ -920,8 +920,8 @@ object-loop-again : (t : ℕ) → object-lts.Need-loop-again (
 object-loop-again t c = object-again ((c .before .before .before .before .before .before .before .before .before .before .before .before .before .before .before .before .before .before .before .before .before .before .before .before .before .before .before .before .before .before .before .before .before .before .args .depth) - 1) (c .before .before .before .before .before .before .before .before .before .before .before .before .before .before .before .before .before .before .before .before .before .before .before .before .before .before .before .before .before .before .before .before .before .before .args .s .now) (c .before .before .before .before .before .before .before .before .before .before .before .before .before .before .before .before .before .before .before .before .before .before .before .before .before .before .before .before .before .before .before .before .before .before .args .at) _ (c .before .before .before .before .before .before .before .before .before .before .before .before .before .before .before .before .before .before .before .before .before .before .before .before .before .before .before .before .before .before .before .before .before .before .args .used) _ _ (c .before .before .before .before .before .before .before .before .before .before .before .before .before .before .before .before .before .before .before .before .before .before .before .before .before .before .loop .places) (c .before .before .before .before .before .before .before .before .before .before .before .before .before .before .before .before .before .before .before .before .before .before .before .before .before .before .loop .keys) (c .before .before .before .before .before .before .before .before .before .before .before .before .before .before .before .before .before .before .before .before .before .before .before .before .before .before .loop .bad) (c .before .before .before .before .before .before .before .before .before .before .before .before .before .before .before .before .before .before .before .before .before .before .before .before .before .before .loop .n) (c .before .before .before .before .before .before .before .before .before .before .before .before .before .before .before .before .before .before .before .before .before .before .before .before .before .before .loop .i) (c .before .before .before .before .before .before .before .before .before .before .before .before .before .before .before .before .before .before .before .before .before .before .before .before .before .before .loop .inv) _ (c .before .before .before .before .before .before .before .before .before .before .before .before .before .before .before .before .before .before .before .before .before .before .before .before .before .name-key .ensures) _ _ (c .before .before .before .before .before .before .before .before .before .before .before .before .before .before .before .before .before .before .before .before .before .before .before .k .given .1) _ _ _ (c .before .before .before .before .before .before .before .before .before .before .before .before .before .before .before .before .before .before .before .keep-name .ensures) (λ h. omega (arith, (c .before .before .before .before .before .before .before .before .before .before .before .before .before .before .before .before .before .before .before .before .before .before .before .before .before .before .before .before .before .before .if1 .left), (c .before .before .before .before .before .before .before .before .before .before .before .before .before .before .before .before .before .before .before .before .before .before .before .before .before .before .loop .inv .forward), (c .before .before .before .before .before .before .before .before .before .before .before .before .before .before .before .before .before .before .before .before .before .before .before .before .before .before .before .before .before .before .before .before .before .before .pre .1 .0), (c .before .before .before .before .before .before .before .before .before .before .before .before .before .before .before .before .before .before .before .before .before .before .before .before .before .before .loop .inv .places-kept .long), name-far (c .before .before .before .before .before .before .before .before .before .before .before .before .before .before .before .before .before .before .before .before .before .before .before .before .before .before .before .before .before .before .before .before .before .before .args .s .now) (c .before .before .before .before .before .before .before .before .before .before .before .before .before .before .before .before .before .before .before .before .before .before .before .before .before .before .loop .i) _ (c .before .before .before .before .before .before .before .before .before .before .before .before .before .before .before .before .before .before .before .before .before .before .before .before .before .name-key .ensures) _ _ (c .before .before .before .before .before .before .before .before .before .before .before .before .before .before .before .before .before .before .before .before .before .before .before .k .given .1) .0)) (λ h. omega (arith, (c .before .before .before .before .before .before .before .before .before .before .before .before .before .before .before .before .before .before .before .before .before .before .before .before .before .before .before .before .before .before .if1 .left), (c .before .before .before .before .before .before .before .before .before .before .before .before .before .before .before .before .before .before .before .before .before .before .before .before .before .before .loop .inv .forward), (c .before .before .before .before .before .before .before .before .before .before .before .before .before .before .before .before .before .before .before .before .before .before .before .before .before .before .before .before .before .before .before .before .before .before .pre .1 .1), (c .before .before .before .before .before .before .before .before .before .before .before .before .before .before .before .before .before .before .before .before .before .before .before .before .before .before .loop .inv .keys-kept .long), name-far (c .before .before .before .before .before .before .before .before .before .before .before .before .before .before .before .before .before .before .before .before .before .before .before .before .before .before .before .before .before .before .before .before .before .before .args .s .now) (c .before .before .before .before .before .before .before .before .before .before .before .before .before .before .before .before .before .before .before .before .before .before .before .before .before .before .loop .i) _ (c .before .before .before .before .before .before .before .before .before .before .before .before .before .before .before .before .before .before .before .before .before .before .before .before .before .name-key .ensures) _ _ (c .before .before .before .before .before .before .before .before .before .before .before .before .before .before .before .before .before .before .before .before .before .before .before .k .given .1) .0)) _ (c .before .before .before .before .before .before .before .before .before .before .before .before .value .ensures .0) _ _ (c .before .before .before .before .before .before .r .given .1) _ (c .before .before .before .before .either .ensures) _ (c .before .before .before .after-member .ensures) _ (c .before .before .before .before .before .before .before .before .before .before .before .before .value .ensures .1 .0) _ (c .before .a .given .1) _ (c .before .before .before .before .before .before .before .before .before .before .before .before .value .ensures .1 .1)
 
 object-enum-known-a-2 : (t : ℕ) → object-lts.Need-enum-known-a-2 (
-  skip-blanks-reads.Asked,
-  skip-blanks-reads.Learnt,
+  skip-indent-reads.Asked,
+  skip-indent-reads.Learnt,
   peek-reads.Asked,
   peek-reads.Learnt,
   name-key-reads.Asked,
@@ -938,8 +938,8 @@ object-enum-known-a-2 : (t : ℕ) → object-lts.Need-enum-known-a-2 (
 object-enum-known-a-2 t c = search needs
 
 object-same-length-5 : (t : ℕ) → object-lts.Need-same-length-5 (
-  skip-blanks-reads.Asked,
-  skip-blanks-reads.Learnt,
+  skip-indent-reads.Asked,
+  skip-indent-reads.Learnt,
   peek-reads.Asked,
   peek-reads.Learnt,
   name-key-reads.Asked,
@@ -956,8 +956,8 @@ object-same-length-5 : (t : ℕ) → object-lts.Need-same-length-5 (
 object-same-length-5 t c = (kept-then (c .before .before .before .before .before .before .before .before .before .before .before .before .before .before .before .before .before .before .before .before .before .before .before .before .before .before .loop .inv .places-kept) (kept-then (kept-places _ _ _ _ _ _ (c .before .before .before .before .before .before .before .before .before .before .before .before .before .before .before .before .before .before .before .keep-name .ensures)) (kept-less (omega arith) (c .before .before .before .before .before .before .before .before .before .before .before .before .value .ensures .1 .0)))) .long
 
 object-same-length-6 : (t : ℕ) → object-lts.Need-same-length-6 (
-  skip-blanks-reads.Asked,
-  skip-blanks-reads.Learnt,
+  skip-indent-reads.Asked,
+  skip-indent-reads.Learnt,
   peek-reads.Asked,
   peek-reads.Learnt,
   name-key-reads.Asked,
@@ -974,8 +974,8 @@ object-same-length-6 : (t : ℕ) → object-lts.Need-same-length-6 (
 object-same-length-6 t c = (kept-then (c .before .before .before .before .before .before .before .before .before .before .before .before .before .before .before .before .before .before .before .before .before .before .before .before .before .before .loop .inv .keys-kept) (kept-then (kept-keys _ _ _ _ _ _ (c .before .before .before .before .before .before .before .before .before .before .before .before .before .before .before .before .before .before .before .keep-name .ensures)) (kept-less (omega arith) (c .before .before .before .before .before .before .before .before .before .before .before .before .value .ensures .1 .1)))) .long
 
 object-returns-5 : (t : ℕ) → object-lts.Need-returns-5 (
-  skip-blanks-reads.Asked,
-  skip-blanks-reads.Learnt,
+  skip-indent-reads.Asked,
+  skip-indent-reads.Learnt,
   peek-reads.Asked,
   peek-reads.Learnt,
   name-key-reads.Asked,
@@ -989,11 +989,11 @@ object-returns-5 : (t : ℕ) → object-lts.Need-returns-5 (
   after-member-reads.Asked,
   after-member-reads.Learnt,
 ) (object-at t) object.Post object-Inv-loop object-μ-loop
-object-returns-5 t c = (object-told _ _ _ _ _ (c .before .before .before .before .before .before .before .before .before .before .before .before .before .before .before .before .before .before .before .before .before .before .before .before .before .before .before .before .before .before .if1 .left) (c .before .before .before .before .before .before .before .before .before .before .before .before .before .before .before .before .before .before .before .before .before .before .before .before .before .before .before .before .before .skip-blanks .ensures) (c .before .before .before .before .before .before .before .before .before .before .before .before .before .before .before .before .before .before .before .before .before .before .before .before .before .before .before .before .peek .ensures) _ (c .before .before .before .before .before .before .before .before .before .before .before .before .before .before .before .before .before .before .before .before .before .before .before .before .before .before .before .if2 .left) (object-close ((c .before .before .before .before .before .before .before .before .before .before .before .before .before .before .before .before .before .before .before .before .before .before .before .before .before .before .before .before .before .before .before .before .before .before .args .depth) - 1) (c .before .before .before .before .before .before .before .before .before .before .before .before .before .before .before .before .before .before .before .before .before .before .before .before .before .before .before .before .before .before .before .before .before .before .args .s .now) (c .before .before .before .before .before .before .before .before .before .before .before .before .before .before .before .before .before .before .before .before .before .before .before .before .before .before .before .before .before .before .before .before .before .before .args .at) _ (c .before .before .before .before .before .before .before .before .before .before .before .before .before .before .before .before .before .before .before .before .before .before .before .before .before .before .before .before .before .before .before .before .before .before .args .used) _ _ (c .before .before .before .before .before .before .before .before .before .before .before .before .before .before .before .before .before .before .before .before .before .before .before .before .before .before .loop .places) (c .before .before .before .before .before .before .before .before .before .before .before .before .before .before .before .before .before .before .before .before .before .before .before .before .before .before .loop .keys) (c .before .before .before .before .before .before .before .before .before .before .before .before .before .before .before .before .before .before .before .before .before .before .before .before .before .before .loop .bad) (c .before .before .before .before .before .before .before .before .before .before .before .before .before .before .before .before .before .before .before .before .before .before .before .before .before .before .loop .n) (c .before .before .before .before .before .before .before .before .before .before .before .before .before .before .before .before .before .before .before .before .before .before .before .before .before .before .loop .i) (c .before .before .before .before .before .before .before .before .before .before .before .before .before .before .before .before .before .before .before .before .before .before .before .before .before .before .loop .inv) _ (c .before .before .before .before .before .before .before .before .before .before .before .before .before .before .before .before .before .before .before .before .before .before .before .before .before .name-key .ensures) _ _ (c .before .before .before .before .before .before .before .before .before .before .before .before .before .before .before .before .before .before .before .before .before .before .before .k .given .1) _ _ _ (c .before .before .before .before .before .before .before .before .before .before .before .before .before .before .before .before .before .before .before .keep-name .ensures) (λ h. omega (arith, (c .before .before .before .before .before .before .before .before .before .before .before .before .before .before .before .before .before .before .before .before .before .before .before .before .before .before .before .before .before .before .if1 .left), (c .before .before .before .before .before .before .before .before .before .before .before .before .before .before .before .before .before .before .before .before .before .before .before .before .before .before .loop .inv .forward), (c .before .before .before .before .before .before .before .before .before .before .before .before .before .before .before .before .before .before .before .before .before .before .before .before .before .before .before .before .before .before .before .before .before .before .pre .1 .0), (c .before .before .before .before .before .before .before .before .before .before .before .before .before .before .before .before .before .before .before .before .before .before .before .before .before .before .loop .inv .places-kept .long), name-far (c .before .before .before .before .before .before .before .before .before .before .before .before .before .before .before .before .before .before .before .before .before .before .before .before .before .before .before .before .before .before .before .before .before .before .args .s .now) (c .before .before .before .before .before .before .before .before .before .before .before .before .before .before .before .before .before .before .before .before .before .before .before .before .before .before .loop .i) _ (c .before .before .before .before .before .before .before .before .before .before .before .before .before .before .before .before .before .before .before .before .before .before .before .before .before .name-key .ensures) _ _ (c .before .before .before .before .before .before .before .before .before .before .before .before .before .before .before .before .before .before .before .before .before .before .before .k .given .1) .0)) (λ h. omega (arith, (c .before .before .before .before .before .before .before .before .before .before .before .before .before .before .before .before .before .before .before .before .before .before .before .before .before .before .before .before .before .before .if1 .left), (c .before .before .before .before .before .before .before .before .before .before .before .before .before .before .before .before .before .before .before .before .before .before .before .before .before .before .loop .inv .forward), (c .before .before .before .before .before .before .before .before .before .before .before .before .before .before .before .before .before .before .before .before .before .before .before .before .before .before .before .before .before .before .before .before .before .before .pre .1 .1), (c .before .before .before .before .before .before .before .before .before .before .before .before .before .before .before .before .before .before .before .before .before .before .before .before .before .before .loop .inv .keys-kept .long), name-far (c .before .before .before .before .before .before .before .before .before .before .before .before .before .before .before .before .before .before .before .before .before .before .before .before .before .before .before .before .before .before .before .before .before .before .args .s .now) (c .before .before .before .before .before .before .before .before .before .before .before .before .before .before .before .before .before .before .before .before .before .before .before .before .before .before .loop .i) _ (c .before .before .before .before .before .before .before .before .before .before .before .before .before .before .before .before .before .before .before .before .before .before .before .before .before .name-key .ensures) _ _ (c .before .before .before .before .before .before .before .before .before .before .before .before .before .before .before .before .before .before .before .before .before .before .before .k .given .1) .0)) _ (c .before .before .before .before .before .before .before .before .before .before .before .before .value .ensures .0) _ _ (c .before .before .before .before .before .before .r .given .1) _ (c .before .before .before .before .either .ensures) _ (c .before .before .before .after-member .ensures) _ (c .before .before .before .before .before .before .before .before .before .before .before .before .value .ensures .1 .0) _ (c .before .a2 .given .1)), (kept-then (c .before .before .before .before .before .before .before .before .before .before .before .before .before .before .before .before .before .before .before .before .before .before .before .before .before .before .loop .inv .places-kept) (kept-then (kept-places _ _ _ _ _ _ (c .before .before .before .before .before .before .before .before .before .before .before .before .before .before .before .before .before .before .before .keep-name .ensures)) (kept-less (omega arith) (c .before .before .before .before .before .before .before .before .before .before .before .before .value .ensures .1 .0))), kept-then (c .before .before .before .before .before .before .before .before .before .before .before .before .before .before .before .before .before .before .before .before .before .before .before .before .before .before .loop .inv .keys-kept) (kept-then (kept-keys _ _ _ _ _ _ (c .before .before .before .before .before .before .before .before .before .before .before .before .before .before .before .before .before .before .before .keep-name .ensures)) (kept-less (omega arith) (c .before .before .before .before .before .before .before .before .before .before .before .before .value .ensures .1 .1)))))
+object-returns-5 t c = (object-told _ _ _ _ _ (c .before .before .before .before .before .before .before .before .before .before .before .before .before .before .before .before .before .before .before .before .before .before .before .before .before .before .before .before .before .before .if1 .left) (c .before .before .before .before .before .before .before .before .before .before .before .before .before .before .before .before .before .before .before .before .before .before .before .before .before .before .before .before .before .skip-indent .ensures) (c .before .before .before .before .before .before .before .before .before .before .before .before .before .before .before .before .before .before .before .before .before .before .before .before .before .before .before .before .peek .ensures) _ (c .before .before .before .before .before .before .before .before .before .before .before .before .before .before .before .before .before .before .before .before .before .before .before .before .before .before .before .if2 .left) (object-close ((c .before .before .before .before .before .before .before .before .before .before .before .before .before .before .before .before .before .before .before .before .before .before .before .before .before .before .before .before .before .before .before .before .before .before .args .depth) - 1) (c .before .before .before .before .before .before .before .before .before .before .before .before .before .before .before .before .before .before .before .before .before .before .before .before .before .before .before .before .before .before .before .before .before .before .args .s .now) (c .before .before .before .before .before .before .before .before .before .before .before .before .before .before .before .before .before .before .before .before .before .before .before .before .before .before .before .before .before .before .before .before .before .before .args .at) _ (c .before .before .before .before .before .before .before .before .before .before .before .before .before .before .before .before .before .before .before .before .before .before .before .before .before .before .before .before .before .before .before .before .before .before .args .used) _ _ (c .before .before .before .before .before .before .before .before .before .before .before .before .before .before .before .before .before .before .before .before .before .before .before .before .before .before .loop .places) (c .before .before .before .before .before .before .before .before .before .before .before .before .before .before .before .before .before .before .before .before .before .before .before .before .before .before .loop .keys) (c .before .before .before .before .before .before .before .before .before .before .before .before .before .before .before .before .before .before .before .before .before .before .before .before .before .before .loop .bad) (c .before .before .before .before .before .before .before .before .before .before .before .before .before .before .before .before .before .before .before .before .before .before .before .before .before .before .loop .n) (c .before .before .before .before .before .before .before .before .before .before .before .before .before .before .before .before .before .before .before .before .before .before .before .before .before .before .loop .i) (c .before .before .before .before .before .before .before .before .before .before .before .before .before .before .before .before .before .before .before .before .before .before .before .before .before .before .loop .inv) _ (c .before .before .before .before .before .before .before .before .before .before .before .before .before .before .before .before .before .before .before .before .before .before .before .before .before .name-key .ensures) _ _ (c .before .before .before .before .before .before .before .before .before .before .before .before .before .before .before .before .before .before .before .before .before .before .before .k .given .1) _ _ _ (c .before .before .before .before .before .before .before .before .before .before .before .before .before .before .before .before .before .before .before .keep-name .ensures) (λ h. omega (arith, (c .before .before .before .before .before .before .before .before .before .before .before .before .before .before .before .before .before .before .before .before .before .before .before .before .before .before .before .before .before .before .if1 .left), (c .before .before .before .before .before .before .before .before .before .before .before .before .before .before .before .before .before .before .before .before .before .before .before .before .before .before .loop .inv .forward), (c .before .before .before .before .before .before .before .before .before .before .before .before .before .before .before .before .before .before .before .before .before .before .before .before .before .before .before .before .before .before .before .before .before .before .pre .1 .0), (c .before .before .before .before .before .before .before .before .before .before .before .before .before .before .before .before .before .before .before .before .before .before .before .before .before .before .loop .inv .places-kept .long), name-far (c .before .before .before .before .before .before .before .before .before .before .before .before .before .before .before .before .before .before .before .before .before .before .before .before .before .before .before .before .before .before .before .before .before .before .args .s .now) (c .before .before .before .before .before .before .before .before .before .before .before .before .before .before .before .before .before .before .before .before .before .before .before .before .before .before .loop .i) _ (c .before .before .before .before .before .before .before .before .before .before .before .before .before .before .before .before .before .before .before .before .before .before .before .before .before .name-key .ensures) _ _ (c .before .before .before .before .before .before .before .before .before .before .before .before .before .before .before .before .before .before .before .before .before .before .before .k .given .1) .0)) (λ h. omega (arith, (c .before .before .before .before .before .before .before .before .before .before .before .before .before .before .before .before .before .before .before .before .before .before .before .before .before .before .before .before .before .before .if1 .left), (c .before .before .before .before .before .before .before .before .before .before .before .before .before .before .before .before .before .before .before .before .before .before .before .before .before .before .loop .inv .forward), (c .before .before .before .before .before .before .before .before .before .before .before .before .before .before .before .before .before .before .before .before .before .before .before .before .before .before .before .before .before .before .before .before .before .before .pre .1 .1), (c .before .before .before .before .before .before .before .before .before .before .before .before .before .before .before .before .before .before .before .before .before .before .before .before .before .before .loop .inv .keys-kept .long), name-far (c .before .before .before .before .before .before .before .before .before .before .before .before .before .before .before .before .before .before .before .before .before .before .before .before .before .before .before .before .before .before .before .before .before .before .args .s .now) (c .before .before .before .before .before .before .before .before .before .before .before .before .before .before .before .before .before .before .before .before .before .before .before .before .before .before .loop .i) _ (c .before .before .before .before .before .before .before .before .before .before .before .before .before .before .before .before .before .before .before .before .before .before .before .before .before .name-key .ensures) _ _ (c .before .before .before .before .before .before .before .before .before .before .before .before .before .before .before .before .before .before .before .before .before .before .before .k .given .1) .0)) _ (c .before .before .before .before .before .before .before .before .before .before .before .before .value .ensures .0) _ _ (c .before .before .before .before .before .before .r .given .1) _ (c .before .before .before .before .either .ensures) _ (c .before .before .before .after-member .ensures) _ (c .before .before .before .before .before .before .before .before .before .before .before .before .value .ensures .1 .0) _ (c .before .a2 .given .1)), (kept-then (c .before .before .before .before .before .before .before .before .before .before .before .before .before .before .before .before .before .before .before .before .before .before .before .before .before .before .loop .inv .places-kept) (kept-then (kept-places _ _ _ _ _ _ (c .before .before .before .before .before .before .before .before .before .before .before .before .before .before .before .before .before .before .before .keep-name .ensures)) (kept-less (omega arith) (c .before .before .before .before .before .before .before .before .before .before .before .before .value .ensures .1 .0))), kept-then (c .before .before .before .before .before .before .before .before .before .before .before .before .before .before .before .before .before .before .before .before .before .before .before .before .before .before .loop .inv .keys-kept) (kept-then (kept-keys _ _ _ _ _ _ (c .before .before .before .before .before .before .before .before .before .before .before .before .before .before .before .before .before .before .before .keep-name .ensures)) (kept-less (omega arith) (c .before .before .before .before .before .before .before .before .before .before .before .before .value .ensures .1 .1)))))
 
 object-enum-told-3 : (t : ℕ) → object-lts.Need-enum-told-3 (
-  skip-blanks-reads.Asked,
-  skip-blanks-reads.Learnt,
+  skip-indent-reads.Asked,
+  skip-indent-reads.Learnt,
   peek-reads.Asked,
   peek-reads.Learnt,
   name-key-reads.Asked,
@@ -1010,8 +1010,8 @@ object-enum-told-3 : (t : ℕ) → object-lts.Need-enum-told-3 (
 object-enum-told-3 t c = search needs
 
 object-same-length-7 : (t : ℕ) → object-lts.Need-same-length-7 (
-  skip-blanks-reads.Asked,
-  skip-blanks-reads.Learnt,
+  skip-indent-reads.Asked,
+  skip-indent-reads.Learnt,
   peek-reads.Asked,
   peek-reads.Learnt,
   name-key-reads.Asked,
@@ -1028,8 +1028,8 @@ object-same-length-7 : (t : ℕ) → object-lts.Need-same-length-7 (
 object-same-length-7 t c = (kept-then (c .before .before .before .before .before .before .before .before .before .before .before .before .before .before .before .before .before .before .before .before .before .before .before .before .before .loop .inv .places-kept) (kept-then (kept-places _ _ _ _ _ _ (c .before .before .before .before .before .before .before .before .before .before .before .before .before .before .before .before .before .before .keep-name .ensures)) (kept-less (omega arith) (c .before .before .before .before .before .before .before .before .before .before .before .value .ensures .1 .0)))) .long
 
 object-same-length-8 : (t : ℕ) → object-lts.Need-same-length-8 (
-  skip-blanks-reads.Asked,
-  skip-blanks-reads.Learnt,
+  skip-indent-reads.Asked,
+  skip-indent-reads.Learnt,
   peek-reads.Asked,
   peek-reads.Learnt,
   name-key-reads.Asked,
@@ -1046,8 +1046,8 @@ object-same-length-8 : (t : ℕ) → object-lts.Need-same-length-8 (
 object-same-length-8 t c = (kept-then (c .before .before .before .before .before .before .before .before .before .before .before .before .before .before .before .before .before .before .before .before .before .before .before .before .before .loop .inv .keys-kept) (kept-then (kept-keys _ _ _ _ _ _ (c .before .before .before .before .before .before .before .before .before .before .before .before .before .before .before .before .before .before .keep-name .ensures)) (kept-less (omega arith) (c .before .before .before .before .before .before .before .before .before .before .before .value .ensures .1 .1)))) .long
 
 object-returns-6 : (t : ℕ) → object-lts.Need-returns-6 (
-  skip-blanks-reads.Asked,
-  skip-blanks-reads.Learnt,
+  skip-indent-reads.Asked,
+  skip-indent-reads.Learnt,
   peek-reads.Asked,
   peek-reads.Learnt,
   name-key-reads.Asked,
@@ -1061,7 +1061,7 @@ object-returns-6 : (t : ℕ) → object-lts.Need-returns-6 (
   after-member-reads.Asked,
   after-member-reads.Learnt,
 ) (object-at t) object.Post object-Inv-loop object-μ-loop
-object-returns-6 t c = (object-told _ _ _ _ _ (c .before .before .before .before .before .before .before .before .before .before .before .before .before .before .before .before .before .before .before .before .before .before .before .before .before .before .before .before .before .if1 .left) (c .before .before .before .before .before .before .before .before .before .before .before .before .before .before .before .before .before .before .before .before .before .before .before .before .before .before .before .before .skip-blanks .ensures) (c .before .before .before .before .before .before .before .before .before .before .before .before .before .before .before .before .before .before .before .before .before .before .before .before .before .before .before .peek .ensures) _ (c .before .before .before .before .before .before .before .before .before .before .before .before .before .before .before .before .before .before .before .before .before .before .before .before .before .before .if2 .left) (object-bad ((c .before .before .before .before .before .before .before .before .before .before .before .before .before .before .before .before .before .before .before .before .before .before .before .before .before .before .before .before .before .before .before .before .before .args .depth) - 1) (c .before .before .before .before .before .before .before .before .before .before .before .before .before .before .before .before .before .before .before .before .before .before .before .before .before .before .before .before .before .before .before .before .before .args .s .now) (c .before .before .before .before .before .before .before .before .before .before .before .before .before .before .before .before .before .before .before .before .before .before .before .before .before .before .before .before .before .before .before .before .before .args .at) _ (c .before .before .before .before .before .before .before .before .before .before .before .before .before .before .before .before .before .before .before .before .before .before .before .before .before .before .before .before .before .before .before .before .before .args .used) _ _ (c .before .before .before .before .before .before .before .before .before .before .before .before .before .before .before .before .before .before .before .before .before .before .before .before .before .loop .places) (c .before .before .before .before .before .before .before .before .before .before .before .before .before .before .before .before .before .before .before .before .before .before .before .before .before .loop .keys) (c .before .before .before .before .before .before .before .before .before .before .before .before .before .before .before .before .before .before .before .before .before .before .before .before .before .loop .bad) (c .before .before .before .before .before .before .before .before .before .before .before .before .before .before .before .before .before .before .before .before .before .before .before .before .before .loop .n) (c .before .before .before .before .before .before .before .before .before .before .before .before .before .before .before .before .before .before .before .before .before .before .before .before .before .loop .i) (c .before .before .before .before .before .before .before .before .before .before .before .before .before .before .before .before .before .before .before .before .before .before .before .before .before .loop .inv) _ (c .before .before .before .before .before .before .before .before .before .before .before .before .before .before .before .before .before .before .before .before .before .before .before .before .name-key .ensures) _ _ (c .before .before .before .before .before .before .before .before .before .before .before .before .before .before .before .before .before .before .before .before .before .before .k .given .1) _ _ _ (c .before .before .before .before .before .before .before .before .before .before .before .before .before .before .before .before .before .before .keep-name .ensures) (λ h. omega (arith, (c .before .before .before .before .before .before .before .before .before .before .before .before .before .before .before .before .before .before .before .before .before .before .before .before .before .before .before .before .before .if1 .left), (c .before .before .before .before .before .before .before .before .before .before .before .before .before .before .before .before .before .before .before .before .before .before .before .before .before .loop .inv .forward), (c .before .before .before .before .before .before .before .before .before .before .before .before .before .before .before .before .before .before .before .before .before .before .before .before .before .before .before .before .before .before .before .before .before .pre .1 .0), (c .before .before .before .before .before .before .before .before .before .before .before .before .before .before .before .before .before .before .before .before .before .before .before .before .before .loop .inv .places-kept .long), name-far (c .before .before .before .before .before .before .before .before .before .before .before .before .before .before .before .before .before .before .before .before .before .before .before .before .before .before .before .before .before .before .before .before .before .args .s .now) (c .before .before .before .before .before .before .before .before .before .before .before .before .before .before .before .before .before .before .before .before .before .before .before .before .before .loop .i) _ (c .before .before .before .before .before .before .before .before .before .before .before .before .before .before .before .before .before .before .before .before .before .before .before .before .name-key .ensures) _ _ (c .before .before .before .before .before .before .before .before .before .before .before .before .before .before .before .before .before .before .before .before .before .before .k .given .1) .0)) (λ h. omega (arith, (c .before .before .before .before .before .before .before .before .before .before .before .before .before .before .before .before .before .before .before .before .before .before .before .before .before .before .before .before .before .if1 .left), (c .before .before .before .before .before .before .before .before .before .before .before .before .before .before .before .before .before .before .before .before .before .before .before .before .before .loop .inv .forward), (c .before .before .before .before .before .before .before .before .before .before .before .before .before .before .before .before .before .before .before .before .before .before .before .before .before .before .before .before .before .before .before .before .before .pre .1 .1), (c .before .before .before .before .before .before .before .before .before .before .before .before .before .before .before .before .before .before .before .before .before .before .before .before .before .loop .inv .keys-kept .long), name-far (c .before .before .before .before .before .before .before .before .before .before .before .before .before .before .before .before .before .before .before .before .before .before .before .before .before .before .before .before .before .before .before .before .before .args .s .now) (c .before .before .before .before .before .before .before .before .before .before .before .before .before .before .before .before .before .before .before .before .before .before .before .before .before .loop .i) _ (c .before .before .before .before .before .before .before .before .before .before .before .before .before .before .before .before .before .before .before .before .before .before .before .before .name-key .ensures) _ _ (c .before .before .before .before .before .before .before .before .before .before .before .before .before .before .before .before .before .before .before .before .before .before .k .given .1) .0)) _ (c .before .before .before .before .before .before .before .before .before .before .before .value .ensures .0) _ _ (c .before .before .before .before .before .r .given .1) _ (c .before .before .before .either .ensures) _ (c .before .before .after-member .ensures) (c .enum-told3 .given .1)), (kept-then (c .before .before .before .before .before .before .before .before .before .before .before .before .before .before .before .before .before .before .before .before .before .before .before .before .before .loop .inv .places-kept) (kept-then (kept-places _ _ _ _ _ _ (c .before .before .before .before .before .before .before .before .before .before .before .before .before .before .before .before .before .before .keep-name .ensures)) (kept-less (omega arith) (c .before .before .before .before .before .before .before .before .before .before .before .value .ensures .1 .0))), kept-then (c .before .before .before .before .before .before .before .before .before .before .before .before .before .before .before .before .before .before .before .before .before .before .before .before .before .loop .inv .keys-kept) (kept-then (kept-keys _ _ _ _ _ _ (c .before .before .before .before .before .before .before .before .before .before .before .before .before .before .before .before .before .before .keep-name .ensures)) (kept-less (omega arith) (c .before .before .before .before .before .before .before .before .before .before .before .value .ensures .1 .1)))))
+object-returns-6 t c = (object-told _ _ _ _ _ (c .before .before .before .before .before .before .before .before .before .before .before .before .before .before .before .before .before .before .before .before .before .before .before .before .before .before .before .before .before .if1 .left) (c .before .before .before .before .before .before .before .before .before .before .before .before .before .before .before .before .before .before .before .before .before .before .before .before .before .before .before .before .skip-indent .ensures) (c .before .before .before .before .before .before .before .before .before .before .before .before .before .before .before .before .before .before .before .before .before .before .before .before .before .before .before .peek .ensures) _ (c .before .before .before .before .before .before .before .before .before .before .before .before .before .before .before .before .before .before .before .before .before .before .before .before .before .before .if2 .left) (object-bad ((c .before .before .before .before .before .before .before .before .before .before .before .before .before .before .before .before .before .before .before .before .before .before .before .before .before .before .before .before .before .before .before .before .before .args .depth) - 1) (c .before .before .before .before .before .before .before .before .before .before .before .before .before .before .before .before .before .before .before .before .before .before .before .before .before .before .before .before .before .before .before .before .before .args .s .now) (c .before .before .before .before .before .before .before .before .before .before .before .before .before .before .before .before .before .before .before .before .before .before .before .before .before .before .before .before .before .before .before .before .before .args .at) _ (c .before .before .before .before .before .before .before .before .before .before .before .before .before .before .before .before .before .before .before .before .before .before .before .before .before .before .before .before .before .before .before .before .before .args .used) _ _ (c .before .before .before .before .before .before .before .before .before .before .before .before .before .before .before .before .before .before .before .before .before .before .before .before .before .loop .places) (c .before .before .before .before .before .before .before .before .before .before .before .before .before .before .before .before .before .before .before .before .before .before .before .before .before .loop .keys) (c .before .before .before .before .before .before .before .before .before .before .before .before .before .before .before .before .before .before .before .before .before .before .before .before .before .loop .bad) (c .before .before .before .before .before .before .before .before .before .before .before .before .before .before .before .before .before .before .before .before .before .before .before .before .before .loop .n) (c .before .before .before .before .before .before .before .before .before .before .before .before .before .before .before .before .before .before .before .before .before .before .before .before .before .loop .i) (c .before .before .before .before .before .before .before .before .before .before .before .before .before .before .before .before .before .before .before .before .before .before .before .before .before .loop .inv) _ (c .before .before .before .before .before .before .before .before .before .before .before .before .before .before .before .before .before .before .before .before .before .before .before .before .name-key .ensures) _ _ (c .before .before .before .before .before .before .before .before .before .before .before .before .before .before .before .before .before .before .before .before .before .before .k .given .1) _ _ _ (c .before .before .before .before .before .before .before .before .before .before .before .before .before .before .before .before .before .before .keep-name .ensures) (λ h. omega (arith, (c .before .before .before .before .before .before .before .before .before .before .before .before .before .before .before .before .before .before .before .before .before .before .before .before .before .before .before .before .before .if1 .left), (c .before .before .before .before .before .before .before .before .before .before .before .before .before .before .before .before .before .before .before .before .before .before .before .before .before .loop .inv .forward), (c .before .before .before .before .before .before .before .before .before .before .before .before .before .before .before .before .before .before .before .before .before .before .before .before .before .before .before .before .before .before .before .before .before .pre .1 .0), (c .before .before .before .before .before .before .before .before .before .before .before .before .before .before .before .before .before .before .before .before .before .before .before .before .before .loop .inv .places-kept .long), name-far (c .before .before .before .before .before .before .before .before .before .before .before .before .before .before .before .before .before .before .before .before .before .before .before .before .before .before .before .before .before .before .before .before .before .args .s .now) (c .before .before .before .before .before .before .before .before .before .before .before .before .before .before .before .before .before .before .before .before .before .before .before .before .before .loop .i) _ (c .before .before .before .before .before .before .before .before .before .before .before .before .before .before .before .before .before .before .before .before .before .before .before .before .name-key .ensures) _ _ (c .before .before .before .before .before .before .before .before .before .before .before .before .before .before .before .before .before .before .before .before .before .before .k .given .1) .0)) (λ h. omega (arith, (c .before .before .before .before .before .before .before .before .before .before .before .before .before .before .before .before .before .before .before .before .before .before .before .before .before .before .before .before .before .if1 .left), (c .before .before .before .before .before .before .before .before .before .before .before .before .before .before .before .before .before .before .before .before .before .before .before .before .before .loop .inv .forward), (c .before .before .before .before .before .before .before .before .before .before .before .before .before .before .before .before .before .before .before .before .before .before .before .before .before .before .before .before .before .before .before .before .before .pre .1 .1), (c .before .before .before .before .before .before .before .before .before .before .before .before .before .before .before .before .before .before .before .before .before .before .before .before .before .loop .inv .keys-kept .long), name-far (c .before .before .before .before .before .before .before .before .before .before .before .before .before .before .before .before .before .before .before .before .before .before .before .before .before .before .before .before .before .before .before .before .before .args .s .now) (c .before .before .before .before .before .before .before .before .before .before .before .before .before .before .before .before .before .before .before .before .before .before .before .before .before .loop .i) _ (c .before .before .before .before .before .before .before .before .before .before .before .before .before .before .before .before .before .before .before .before .before .before .before .before .name-key .ensures) _ _ (c .before .before .before .before .before .before .before .before .before .before .before .before .before .before .before .before .before .before .before .before .before .before .k .given .1) .0)) _ (c .before .before .before .before .before .before .before .before .before .before .before .value .ensures .0) _ _ (c .before .before .before .before .before .r .given .1) _ (c .before .before .before .either .ensures) _ (c .before .before .after-member .ensures) (c .enum-told3 .given .1)), (kept-then (c .before .before .before .before .before .before .before .before .before .before .before .before .before .before .before .before .before .before .before .before .before .before .before .before .before .loop .inv .places-kept) (kept-then (kept-places _ _ _ _ _ _ (c .before .before .before .before .before .before .before .before .before .before .before .before .before .before .before .before .before .before .keep-name .ensures)) (kept-less (omega arith) (c .before .before .before .before .before .before .before .before .before .before .before .value .ensures .1 .0))), kept-then (c .before .before .before .before .before .before .before .before .before .before .before .before .before .before .before .before .before .before .before .before .before .before .before .before .before .loop .inv .keys-kept) (kept-then (kept-keys _ _ _ _ _ _ (c .before .before .before .before .before .before .before .before .before .before .before .before .before .before .before .before .before .before .keep-name .ensures)) (kept-less (omega arith) (c .before .before .before .before .before .before .before .before .before .before .before .value .ensures .1 .1)))))
 
 value-peek-requires : (t : ℕ) → value-lts.Need-peek-requires (
   peek-reads.Asked,
@@ -1261,8 +1261,8 @@ value-returns-3 t c = (value-leaf _ _ _ _ (c .before .before .before .before .pe
 
 pub +array+object+value-spec : {M : Type 1} → statement M
 +array+object+value-spec = close μ-array μ-object μ-value (λ t. array-lts.spec (
-  skip-blanks-reads.Asked,
-  skip-blanks-reads.Learnt,
+  skip-indent-reads.Asked,
+  skip-indent-reads.Learnt,
   peek-reads.Asked,
   peek-reads.Learnt,
   value-below t,
@@ -1277,7 +1277,7 @@ pub +array+object+value-spec : {M : Type 1} → statement M
     array-Inv-loop
     array-μ-loop
     (array-returns t)
-    (array-skip-blanks-requires t)
+    (array-skip-indent-requires t)
     (array-peek-requires t)
     (array-add-t19 t)
     (array-returns-2 t)
@@ -1303,8 +1303,8 @@ pub +array+object+value-spec : {M : Type 1} → statement M
     (array-same-length-6 t)
     (array-returns-5 t))
     (λ t. object-lts.spec (
-      skip-blanks-reads.Asked,
-      skip-blanks-reads.Learnt,
+      skip-indent-reads.Asked,
+      skip-indent-reads.Learnt,
       peek-reads.Asked,
       peek-reads.Learnt,
       name-key-reads.Asked,
@@ -1323,7 +1323,7 @@ pub +array+object+value-spec : {M : Type 1} → statement M
     object-Inv-loop
     object-μ-loop
     (object-returns t)
-    (object-skip-blanks-requires t)
+    (object-skip-indent-requires t)
     (object-peek-requires t)
     (object-add-t25 t)
     (object-returns-2 t)

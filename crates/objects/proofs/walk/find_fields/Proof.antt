@@ -24,8 +24,8 @@ returns c = (low-past (c .before .before .before .before .args .s .now) (c .befo
 add-t16 : tie.Need-add-t16 Inv-loop μ-loop
 add-t16 c = search needs
 
-skip-blanks-requires : tie.Need-skip-blanks-requires Inv-loop μ-loop
-skip-blanks-requires c κs = search needs
+skip-indent-requires : tie.Need-skip-indent-requires Inv-loop μ-loop
+skip-indent-requires c κs = search needs
 
 loop-holds : tie.Need-loop-holds Inv-loop μ-loop
 loop-holds c = walk-begin (c .before .before .before .before .before .args .s .now) (coreOf (c .before .before .before .before .before .args .kind)) _ _ _ (c .before .before .before .before .before .pre .1 .1 .0) (c .before .before .before .before .before .pre .1 .1 .1) (c .before .before .before .before .before .pre .0) (c .before .before .before .before .before .pre .1 .0)
@@ -46,7 +46,7 @@ same-length-2 : tie.Need-same-length-2 Inv-loop μ-loop
 same-length-2 c = (c .before .before .before .loop .inv .size-slots) ∙ sym (c .before .before .before .before .before .before .before .before .before .pre .1 .0)
 
 returns-2 : tie.Need-returns-2 Inv-loop μ-loop
-returns-2 c = (walk-low (c .before .before .before .before .before .before .before .before .before .args .s .now) (coreOf (c .before .before .before .before .before .before .before .before .before .args .kind)) _ (c .before .before .before .loop .j) (c .before .before .before .loop .low) (c .before .before .before .loop .places) (c .before .before .before .loop .sizes) (c .before .before .before .loop .inv) (sym (c .before .before .next-member .ensures) ∙ (c .enum-told .given) .1) (c .before .before .before .before .before .before .before .before .before .args .at) (c .before .before .before .before .before .if1 .left) (c .before .before .before .before .skip-blanks .ensures), (walk-close (c .before .before .before .before .before .before .before .before .before .args .s .now) (coreOf (c .before .before .before .before .before .before .before .before .before .args .kind)) _ (c .before .before .before .loop .j) (c .before .before .before .loop .low) (c .before .before .before .loop .places) (c .before .before .before .loop .sizes) (c .before .before .before .loop .inv) (sym (c .before .before .next-member .ensures) ∙ (c .enum-told .given) .1) (c .before .before .before .before .before .before .before .before .before .args .at) (c .before .before .before .before .before .if1 .left) (c .before .before .before .before .skip-blanks .ensures), (walk-noted (c .before .before .before .before .before .before .before .before .before .args .s .now) (coreOf (c .before .before .before .before .before .before .before .before .before .args .kind)) _ (c .before .before .before .loop .j) (c .before .before .before .loop .low) (c .before .before .before .loop .places) (c .before .before .before .loop .sizes) (c .before .before .before .loop .inv) (sym (c .before .before .next-member .ensures) ∙ (c .enum-told .given) .1) (c .before .before .before .before .before .before .before .before .before .args .at) (c .before .before .before .before .before .if1 .left) (c .before .before .before .before .skip-blanks .ensures), (walk-measured (c .before .before .before .before .before .before .before .before .before .args .s .now) (coreOf (c .before .before .before .before .before .before .before .before .before .args .kind)) _ (c .before .before .before .loop .j) (c .before .before .before .loop .low) (c .before .before .before .loop .places) (c .before .before .before .loop .sizes) (c .before .before .before .loop .inv) (sym (c .before .before .next-member .ensures) ∙ (c .enum-told .given) .1) (c .before .before .before .before .before .before .before .before .before .args .at) (c .before .before .before .before .before .if1 .left) (c .before .before .before .before .skip-blanks .ensures), ((c .before .before .before .loop .inv .within), ((c .before .before .before .loop .inv .slots) ∙ sym (c .before .before .before .before .before .before .before .before .before .pre .0), (c .before .before .before .loop .inv .size-slots) ∙ sym (c .before .before .before .before .before .before .before .before .before .pre .1 .0)))))))
+returns-2 c = (walk-low (c .before .before .before .before .before .before .before .before .before .args .s .now) (coreOf (c .before .before .before .before .before .before .before .before .before .args .kind)) _ (c .before .before .before .loop .j) (c .before .before .before .loop .low) (c .before .before .before .loop .places) (c .before .before .before .loop .sizes) (c .before .before .before .loop .inv) (sym (c .before .before .next-member .ensures) ∙ (c .enum-told .given) .1) (c .before .before .before .before .before .before .before .before .before .args .at) (c .before .before .before .before .before .if1 .left) (c .before .before .before .before .skip-indent .ensures), (walk-close (c .before .before .before .before .before .before .before .before .before .args .s .now) (coreOf (c .before .before .before .before .before .before .before .before .before .args .kind)) _ (c .before .before .before .loop .j) (c .before .before .before .loop .low) (c .before .before .before .loop .places) (c .before .before .before .loop .sizes) (c .before .before .before .loop .inv) (sym (c .before .before .next-member .ensures) ∙ (c .enum-told .given) .1) (c .before .before .before .before .before .before .before .before .before .args .at) (c .before .before .before .before .before .if1 .left) (c .before .before .before .before .skip-indent .ensures), (walk-noted (c .before .before .before .before .before .before .before .before .before .args .s .now) (coreOf (c .before .before .before .before .before .before .before .before .before .args .kind)) _ (c .before .before .before .loop .j) (c .before .before .before .loop .low) (c .before .before .before .loop .places) (c .before .before .before .loop .sizes) (c .before .before .before .loop .inv) (sym (c .before .before .next-member .ensures) ∙ (c .enum-told .given) .1) (c .before .before .before .before .before .before .before .before .before .args .at) (c .before .before .before .before .before .if1 .left) (c .before .before .before .before .skip-indent .ensures), (walk-measured (c .before .before .before .before .before .before .before .before .before .args .s .now) (coreOf (c .before .before .before .before .before .before .before .before .before .args .kind)) _ (c .before .before .before .loop .j) (c .before .before .before .loop .low) (c .before .before .before .loop .places) (c .before .before .before .loop .sizes) (c .before .before .before .loop .inv) (sym (c .before .before .next-member .ensures) ∙ (c .enum-told .given) .1) (c .before .before .before .before .before .before .before .before .before .args .at) (c .before .before .before .before .before .if1 .left) (c .before .before .before .before .skip-indent .ensures), ((c .before .before .before .loop .inv .within), ((c .before .before .before .loop .inv .slots) ∙ sym (c .before .before .before .before .before .before .before .before .before .pre .0), (c .before .before .before .loop .inv .size-slots) ∙ sym (c .before .before .before .before .before .before .before .before .before .pre .1 .0)))))))
 
 part-of-requires : tie.Need-part-of-requires Inv-loop μ-loop
 part-of-requires c κs = search needs
@@ -87,7 +87,7 @@ find-fields-spec =
     sub-known
     returns
     add-t16
-    skip-blanks-requires
+    skip-indent-requires
     loop-holds
     next-member-requires
     enum-known-g
