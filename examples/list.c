@@ -4,7 +4,8 @@
        cc -o list examples/list.c target/staticlib/libexport.a target/staticlib/libexport_listing.a
        ./list 108 < examples/gate.sigmf-meta
 
-   The number is the dataset's length in bytes. */
+   The number is the dataset's length in bytes. Exit status: 0 listed, 1 refused (the number is on standard error), 2 no answer. */
+#include <errno.h>
 #include <stdio.h>
 #include <stdlib.h>
 
@@ -17,22 +18,41 @@ static uint8_t text[METADATA + 1];
 static uint64_t captures[ROWS], annotations[ROWS];
 static uint8_t output[OUTPUT];
 
+/* A length: decimal digits alone, below 2^64. */
+static int is_length(const char *word, uint64_t *length) {
+    char *end;
+    errno = 0;
+    *length = strtoull(word, &end, 10);
+    return word[0] >= '0' && word[0] <= '9' && *end == '\0' && errno == 0;
+}
+
+static int refuse(uint64_t number) {
+    fprintf(stderr, "refused %u\n", (unsigned)number);
+    return 1;
+}
+
 int main(int argc, char **argv) {
-    if (argc != 2) {
+    uint64_t d;
+    if (argc != 2 || !is_length(argv[1], &d)) {
         fprintf(stderr, "usage: list LENGTH < METADATA\n");
         return 2;
     }
     size_t length = fread(text, 1, sizeof text, stdin);
-    struct summary t = recording_read(text, length, strtoull(argv[1], NULL, 10), captures, ROWS, annotations, ROWS);
+    if (ferror(stdin)) {
+        perror("list: the metadata could not be read");
+        return 2;
+    }
+    struct summary t = recording_read(text, length, d, captures, ROWS, annotations, ROWS);
     if (t.refusal != 0) {
-        printf("refused %u\n", (unsigned)t.refusal);
-        return 1;
+        return refuse(t.refusal);
     }
     struct listed l = table_listing(t, captures, ROWS, annotations, ROWS, text, length, output, OUTPUT);
     if (l.refusal != 0) {
-        printf("refused %u\n", (unsigned)l.refusal);
-        return 1;
+        return refuse(l.refusal);
     }
-    fwrite(output, 1, l.bytes, stdout);
+    if (fwrite(output, 1, l.bytes, stdout) != l.bytes || fflush(stdout) != 0) {
+        perror("list: the listing could not be written");
+        return 2;
+    }
     return 0;
 }

@@ -1,4 +1,5 @@
-// Judges the JSON text on standard input: prints `good`, or `refused` and document 01's number.
+// Judges the JSON text on standard input: prints `good`, or `refused` and document 01's number. Where the input can't be read to its
+// end or the answer can't be written, it says so on standard error.
 use json::Judged;
 use json::judge;
 use limits::Limits;
@@ -9,32 +10,47 @@ const ROOM: usize = Limits::METADATA + 1;
 fn main() {
     let mut room = [0u8; ROOM];
     let n = io::read_full(0, &mut room);
+    if n < ROOM {
+        if is_unread() {
+            io::write_all(2, b"check_json: the input could not be read to its end\n");
+            return;
+        }
+    }
     if n == 0 {
-        refuse_length();
+        print(b"refused 1\n");
         return;
     }
     if Limits::METADATA < n {
-        refuse_length();
+        print(b"refused 1\n");
         return;
     }
     answer(&room[..n]);
 }
 
-fn refuse_length() {
-    io::write_all(1, b"refused 1\n");
+// The input does not end here: another read gives a byte or fails.
+fn is_unread() -> bool {
+    let mut one = [0u8; 1];
+    libc::read(0, &mut one) != 0
 }
 
 fn answer(text: &[u8]) {
     let j = judge(text);
     match j {
         Judged::Good => {
-            io::write_all(1, b"good\n");
+            print(b"good\n");
         }
         Judged::NotJson => {
-            io::write_all(1, b"refused 2\n");
+            print(b"refused 2\n");
         }
         Judged::BadMembers => {
-            io::write_all(1, b"refused 3\n");
+            print(b"refused 3\n");
         }
     }
+}
+
+fn print(bytes: &[u8]) {
+    if io::write_all(1, bytes) {
+        return;
+    }
+    io::write_all(2, b"check_json: the answer could not be written\n");
 }
