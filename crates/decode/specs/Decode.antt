@@ -134,10 +134,13 @@ unfoldable pub stream : List ℕ → ℕ → ℕ → List ℕ
 stream s at k =
     cond (ltb k (length (bytesAt s at))) (drop k (bytesAt s at) ++ decodedFrom s (unitEnd at (unitAt s at))) []
 
--- what a step of the stream says: the next byte and where the rest stands, or that there is none
-abbrev pub streamed : List ℕ → Stream → List ℕ
-streamed s (Next b at k) = b ∷ stream s at k
-streamed s End = []
+-- byte k of the unit at a place, and where the next decoded byte stands: byte k + 1 of the same unit, or the first of the unit past
+-- it; the end where there is no byte k
+unfoldable pub nextByte : List ℕ → ℕ → ℕ → Stream
+nextByte s at k =
+    cond (ltb k (length (bytesAt s at)))
+    (cond (ltb (k + 1) (length (bytesAt s at))) (Next (getD (bytesAt s at) k 0) at (k + 1)) (Next (getD (bytesAt s at) k 0) (unitEnd at (unitAt s at)) 0))
+    End
 
 -- a later byte of a code point in UTF-8, the j-th from its last
 unfoldable pub laterByte : ℕ → ℕ → ℕ

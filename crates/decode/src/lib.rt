@@ -9,7 +9,7 @@ ghost use mathlib.Core.Path.{_≡_};
 ghost use Prim.Native.Nat.{ℕ, _<_, _≤_};
 ghost use lib.ListN.{length, getD};
 ghost use Rattle.tokens.specs.Text.{byte};
-ghost use Rattle.decode.specs.Decode.{shortCode, pairCode, lowUnit, unicodeUnit, escapeUnit, utf8, laterByte, stream, streamed, decodedFrom, isBody};
+ghost use Rattle.decode.specs.Decode.{shortCode, pairCode, lowUnit, unicodeUnit, escapeUnit, utf8, laterByte, nextByte, decodedFrom, isBody};
 ghost use Rattle.decode.specs.Same.{same, keyBy, keyOf, secondKeyOf};
 use crate::alike::alike_prefix;
 use crate::plain::FIRST;
@@ -220,7 +220,7 @@ pub(crate) fn utf8_byte(p: usize, n: usize, k: usize) -> u8
 pub(crate) fn escaped_byte(s: &[u8], at: usize, k: usize) -> Stream
     requires { ⌜ byte (now s) at ≡ 0x5C ⌝ }
     requires { ⌜ at < length (now s) ⌝ }
-    ensures { λ r. ⌜ streamed (now (s .entry)) r ≡ stream (now (s .entry)) at k ⌝ }
+    ensures { λ r. ⌜ r ≡ nextByte (now (s .entry)) at k ⌝ }
 {
     let u = escape_unit(s, at + 1);
     let Unit::Escape(p, j) = u else {
@@ -242,7 +242,7 @@ pub(crate) fn escaped_byte(s: &[u8], at: usize, k: usize) -> Stream
 
 // The next decoded byte, from byte k of the unit at a place on.
 pub fn next_byte(s: &[u8], at: usize, k: usize) -> Stream
-    ensures { λ r. ⌜ streamed (now (s .entry)) r ≡ stream (now (s .entry)) at k ⌝ }
+    ensures { λ r. ⌜ r ≡ nextByte (now (s .entry)) at k ⌝ }
 {
     if at < s.len() {
         let b = s[at];

@@ -1,7 +1,8 @@
 // The judge, the reader and the functions on tables, for C and Rust to call. The header is export.h.
 ghost use mathlib.Core.Path.{_≡_};
 ghost use lib.ListN.{length};
-ghost use Rattle.json.specs.Judged.{judged, refusalOf};
+ghost use Rattle.refusals.specs.Refusals.{lowest};
+ghost use Rattle.json.specs.Judged.{judgeRules};
 ghost use Rattle.table.specs.Locate.{locateAnswer};
 ghost use Rattle.cutting.specs.Pieces.{piecesAnswer, piecesMemory};
 ghost use Rattle.cutting.specs.Cut.{cutAnswer, cutCaptureMemory, cutAnnotationMemory};
@@ -15,7 +16,7 @@ use table::Summary;
 // Document 01's number of a text: 0, or refusal 2 or 3.
 #[no_mangle]
 pub extern "C" fn json_judge(text: &[u8]) -> u32
-    ensures { λ r. ⌜ r ≡ refusalOf (judged (now (text .entry))) ⌝ }
+    ensures { λ r. ⌜ r ≡ lowest (judgeRules (now (text .entry))) ⌝ }
 {
     let j = json::judge(text);
     match j {

@@ -1,7 +1,7 @@
 -- Steps of the definitions of specs/Extensions.antt, on plain variables.
-use mathlib.Core.Path.{_≡_, sym, ap, _∙_}
-use mathlib.Core.Bool.{true, false}
-use mathlib.Core.List.{List}
+use mathlib.Core.Path.{_≡_, refl, sym, ap, _∙_}
+use mathlib.Core.Bool.{Bool, true, false, cond, not, _&&_}
+use mathlib.Core.List.{List, [], _∷_}
 use Prim.Native.Nat.{ℕ, _≤_, _<_, _+_}
 use native.Mathlib.Omega.{arith}
 use lib.ListN.{length}
@@ -21,7 +21,8 @@ use Rattle.fields.specs.declared.FieldType.the-variants as T
 use Rattle.fields.specs.declared.Extension.{Extension}
 use Rattle.fields.specs.declared.Extension.the-variants as E
 use Rattle.fields.specs.Values.{partOf, hasType, isTrue}
-use Rattle.fields.specs.Extensions.{classOf, counted, tallyFrom, tallyOf, judged, extensionOf}
+use Rattle.fields.specs.Extensions.{classOf, counted, tallyFrom, tallyOf, exactly, needed, judged, extensionOf, extensionRefusal, extensionRules}
+use Rattle.refusals.specs.Refusals.{rule, lowest}
 
 -- ---- counts
 abbrev pub total : Tally → ℕ
@@ -104,3 +105,30 @@ module _ (p : List ℕ) where
   pub entry-is : (t : Tally) (r : Extension) → hasType T.Object p ≡ true → t ≡ tallyOf p → r ≡ judged t → r ≡ extensionOf p
   unfolding extensionOf
   entry-is t r h e q = rw (h, ← e) q
+
+  -- ---- the number that it gives cause for
+  extension-same : extensionRefusal (extensionOf p) ≡ lowest (extensionRules p)
+  unfolding extensionOf judged lowest
+  extension-same = go (hasType T.Object p) (exactly (tallyOf p)) (needed (tallyOf p)) where
+    go : (a b c : Bool) → extensionRefusal (cond a (cond b (cond c E.Needed E.Ignored) E.Malformed) E.Malformed)
+        ≡ lowest (rule 12 (not (a && b)) ∷ rule 13 c ∷ [])
+    go true true true = refl
+    go true true false = refl
+    go true false c = refl
+    go false b c = refl
+
+  pub entry-refusal : (r : Extension) → r ≡ extensionOf p → extensionRefusal r ≡ lowest (extensionRules p)
+  entry-refusal r e = ap extensionRefusal e ∙ extension-same
+
+  pub extension-is : (r : Extension) → extensionRefusal r ≡ lowest (extensionRules p) → r ≡ extensionOf p
+  extension-is r e = go r (extensionOf p) (e ∙ sym extension-same) where
+    go : (a b : Extension) → extensionRefusal a ≡ extensionRefusal b → a ≡ b
+    go E.Malformed E.Malformed e = refl
+    go E.Malformed E.Needed e = absurd (omega (arith, e))
+    go E.Malformed E.Ignored e = absurd (omega (arith, e))
+    go E.Needed E.Malformed e = absurd (omega (arith, e))
+    go E.Needed E.Needed e = refl
+    go E.Needed E.Ignored e = absurd (omega (arith, e))
+    go E.Ignored E.Malformed e = absurd (omega (arith, e))
+    go E.Ignored E.Needed e = absurd (omega (arith, e))
+    go E.Ignored E.Ignored e = refl

@@ -8,7 +8,7 @@ use lib.ListN.{length, take, set, length-set}
 use lib.Seq.{length-take-le, take-all, take-at, take-suc-set}
 use Rattle.decode.specs.declared.Stream.{Stream}
 use Rattle.decode.specs.declared.Stream.the-variants.{Next, End}
-use Rattle.decode.specs.Decode.{stream, streamed}
+use Rattle.decode.specs.Decode.{nextByte, stream}
 use Rattle.decode.proofs.DecodeLaws.{stream-start, streamed-next, streamed-end}
 use Rattle.texts.specs.Texts.{nameText}
 
@@ -27,7 +27,7 @@ module _ (s m : List ℕ) (j k n : ℕ) (out : List ℕ) (p : Put s m j k n out)
       let l : length (take n out) ≡ length m = length-take-le n out (p .room) ∙ omega (arith, p .room, p .long) in
       rw (← p .text) (sym (take-at (take n out) (stream s j k) (length m) l))
 
-  module _ (g : Stream) (e : streamed s g ≡ stream s j k) (h : n < length out) where
+  module _ (g : Stream) (e : g ≡ nextByte s j k) (h : n < length out) where
     pub put-on : (b i l : ℕ) → g ≡ Next b i l → Put s m i l (n + 1) (set out n b)
     put-on b i l q = record {
       long = length-set out n b ∙ p .long;
@@ -35,11 +35,11 @@ module _ (s m : List ℕ) (j k n : ℕ) (out : List ℕ) (p : Put s m j k n out)
       text =
           rw (add-one n, take-suc-set out n b h)
           (append-assoc (take n out) (b ∷ []) (stream s i l)
-          ∙ ap (λ (x : List ℕ). take n out ++ x) (sym (streamed-next s (stream s j k) g e b i l q)) ∙ p .text);
+          ∙ ap (λ (x : List ℕ). take n out ++ x) (sym (streamed-next s j k g e b i l q)) ∙ p .text);
     }
 
     pub put-end : g ≡ End → take n out ≡ take (length m) (nameText s)
-    put-end q = sym (whole (nameText s) (sym (p .text) ∙ ap (λ (x : List ℕ). take n out ++ x) (streamed-end s (stream s j k) g e q)))
+    put-end q = sym (whole (nameText s) (sym (p .text) ∙ ap (λ (x : List ℕ). take n out ++ x) (streamed-end s j k g e q)))
       where
         whole : (x : List ℕ) → x ≡ take n out ++ [] → take (length m) x ≡ take n out
         whole x f =

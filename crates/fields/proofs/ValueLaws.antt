@@ -1,22 +1,26 @@
 -- Steps of the definitions of specs/Values.antt, on plain variables.
-use mathlib.Core.Path.{_≡_, refl, sym, _∙_}
-use mathlib.Core.Bool.{Bool, true, false, cond, _&&_}
+use mathlib.Core.Path.{_≡_, refl, sym, ap, _∙_}
+use mathlib.Core.Bool.{Bool, true, false, cond, not, _&&_}
 use mathlib.Core.List.{List, [], _∷_}
-use Prim.Native.Nat.{ℕ, _≤_, _<_, _+_, _-_, _*_, _^_}
+use Prim.Native.Nat.{ℕ, _≤_, _<_, _+_, _-_, _*_, _^_, min}
 use native.Mathlib.Omega.{arith}
 use native.Mathlib.Numerals.{add-one}
 use lib.ListN.{length, take, drop, drop-of-length-le, length-drop}
 use lib.Seq.{drop-cons, drop-length, take-all, take-nil}
-use lib.Dec.{ltb}
+use lib.Dec.{eqb, ltb}
 use borrow.Author.Tests.{eq-eqb, ne-eqb, lt-ltb, le-ltb}
 use Rattle.tokens.specs.Text.{byte}
 use Rattle.tokens.specs.Lists.{all, numberFrom}
 use Rattle.tokens.specs.Number.{digit}
+use Rattle.refusals.specs.Answer.{accepted, refused}
 use Rattle.fields.specs.declared.Uint.{Uint}
 use Rattle.fields.specs.declared.Uint.the-variants as U
-use Rattle.fields.specs.Values.{partOf, digitsFrom, uintOf}
+use Rattle.fields.specs.Values.{partOf, partFrom, digitsFrom, uintOf, uintSays, isUint, uintAnswer}
 
 -- ---- a part of a text
+shifted : (n b m : ℕ) → n ≡ m → n + b ≡ b + m
+shifted n b m e = omega (arith, e)
+
 module _ (s : List ℕ) (at end : ℕ) where
   pub part-over : length s ≤ at → take (length s - length s) (drop (length s) s) ≡ partOf s at end
   part-over h = rw (drop-length s, drop-of-length-le s h, take-nil (length s - length s), take-nil (end - at))
@@ -27,6 +31,20 @@ module _ (s : List ℕ) (at end : ℕ) where
   pub part-rest : length s ≤ end → take (length s - at) (drop at s) ≡ partOf s at end
   part-rest h =
       take-all (length s - at) (drop at s) (omega (arith, length-drop at s)) ∙ sym (take-all (end - at) (drop at s) (omega (arith, length-drop at s)))
+
+  -- where it begins, in a text from b on
+  pub from-over : (b : ℕ) → length s ≤ at → length s + b ≡ b + partFrom s at end
+  from-over b h = shifted (length s) b _ (go (omega arith) (ltb at end))
+    where
+      go : length s ≡ min at (length s) → (t : Bool) → length s ≡ cond t (min at (length s)) (length s)
+      go z true = z
+      go z false = refl
+
+  pub from-none : (b : ℕ) → end ≤ at → length s + b ≡ b + partFrom s at end
+  from-none b h = shifted (length s) b _ (rw (le-ltb _ _ h))
+
+  pub from-in : (b : ℕ) → at < length s → at < end → at + b ≡ b + partFrom s at end
+  from-in b h k = let z : min at (length s) ≡ at = omega arith in shifted at b _ (rw (lt-ltb _ _ k, z))
 
 -- more digits make no smaller number
 number-onward : (n : ℕ) (l : List ℕ) → n ≤ numberFrom n l
@@ -76,3 +94,30 @@ module _ (p : List ℕ) where
     pub uint-digits : (r : Uint) → (byte p 0 ≡ 0x30 → ⊥) → r ≡ digitsFrom 0 p → r ≡ uintOf p
     unfolding uintOf
     uint-digits r e q = rw (ne-eqb _ _ h, ne-eqb _ _ e) q
+
+-- ---- what the answer of a uint says
+module _ (p : List ℕ) where
+  uint-same : uintSays (uintOf p) ≡ uintAnswer p
+  unfolding uintOf digitsFrom isUint
+  uint-same = go (eqb (length p) 0) (eqb (byte p 0) 0x30 && ltb 1 (length p)) (all digit p) (ltb (numberFrom 0 p) (2 ^ 64)) where
+    n : ℕ
+    n = numberFrom 0 p
+
+    go : (a b c d : Bool) → uintSays (cond a U.Bad (cond b U.Bad (cond (c && d) (U.Value n) U.Bad)))
+        ≡ cond (not a && not b && c && d) (accepted n) (refused 7)
+    go true b c d = refl
+    go false true c d = refl
+    go false false true true = refl
+    go false false true false = refl
+    go false false false d = refl
+
+  pub says-uint : (r : Uint) → r ≡ uintOf p → uintSays r ≡ uintAnswer p
+  says-uint r e = ap uintSays e ∙ uint-same
+
+  pub uint-of : (r : Uint) → uintSays r ≡ uintAnswer p → r ≡ uintOf p
+  uint-of r e = go r (uintOf p) (e ∙ sym uint-same) where
+    go : (a b : Uint) → uintSays a ≡ uintSays b → a ≡ b
+    go (U.Value n) (U.Value m) e = let z : n ≡ m = cc in ap U.Value z
+    go (U.Value n) U.Bad e = let z : _≡_ {A = ℕ} 0 1 = cc in absurd (omega arith)
+    go U.Bad (U.Value m) e = let z : _≡_ {A = ℕ} 0 1 = cc in absurd (omega arith)
+    go U.Bad U.Bad e = refl

@@ -1,5 +1,5 @@
 -- Extension entries (document 01, "Fields"). p is the part of the text that holds the entry.
-use mathlib.Core.Bool.{Bool, cond, _&&_}
+use mathlib.Core.Bool.{Bool, cond, not, _&&_}
 use mathlib.Core.List.{List, [], _∷_}
 use Prim.Native.Nat.{ℕ, _+_}
 use lib.Dec.{eqb}
@@ -8,6 +8,7 @@ use Rattle.decode.specs.Same.{same}
 use Rattle.members.specs.declared.Member.{Member}
 use Rattle.members.specs.Members.{membersAt}
 use Rattle.texts.specs.Texts.{nameText}
+use Rattle.refusals.specs.Refusals.{Rule, rule}
 use Rattle.fields.specs.declared.FieldType.the-variants as T
 use Rattle.fields.specs.declared.EntryMember.{EntryMember}
 use Rattle.fields.specs.declared.EntryMember.the-variants as M
@@ -53,10 +54,14 @@ abbrev pub neededIf : Bool → Bool
 neededIf optional = optional
 
 -- "an object with exactly" one of each, and no other member
+abbrev pub exactly : Tally → Bool
+exactly t = eqb (t .names) 1 && eqb (t .versions) 1 && eqb (t .optionals) 1 && eqb (t .others) 0
+
+abbrev pub needed : Tally → Bool
+needed t = neededIf (eqb (t .trues) 1)
+
 unfoldable pub judged : Tally → Extension
-judged t =
-    cond (eqb (t .names) 1 && eqb (t .versions) 1 && eqb (t .optionals) 1 && eqb (t .others) 0)
-    (cond (neededIf (eqb (t .trues) 1)) E.Needed E.Ignored) E.Malformed
+judged t = cond (exactly t) (cond (needed t) E.Needed E.Ignored) E.Malformed
 
 unfoldable pub extensionOf : List ℕ → Extension
 extensionOf p = cond (hasType T.Object p) (judged (tallyOf p)) E.Malformed
@@ -66,3 +71,7 @@ abbrev pub extensionRefusal : Extension → ℕ
 extensionRefusal E.Malformed = 12
 extensionRefusal E.Needed = 13
 extensionRefusal E.Ignored = 0
+
+-- 12: "an extension entry is malformed"; 13: "an extension is needed (none is known yet)"
+abbrev pub extensionRules : List ℕ → List Rule
+extensionRules p = rule 12 (not (hasType T.Object p && exactly (tallyOf p))) ∷ rule 13 (needed (tallyOf p)) ∷ []

@@ -1,13 +1,14 @@
 -- The type of one value, "judged on the part of the text that holds it, and on no other byte" (document 01, "The JSON text"):
 -- p is that part, from the value's first byte to its last.
-use mathlib.Core.Bool.{Bool, true, false, cond, _&&_, _||_}
+use mathlib.Core.Bool.{Bool, true, false, cond, not, _&&_, _||_}
 use mathlib.Core.List.{List}
-use Prim.Native.Nat.{ℕ, _-_, _^_}
+use Prim.Native.Nat.{ℕ, _-_, _^_, min}
 use lib.ListN.{length, take, drop}
 use lib.Dec.{eqb, ltb}
 use Rattle.tokens.specs.Text.{byte}
 use Rattle.tokens.specs.Lists.{all, numberFrom}
 use Rattle.tokens.specs.Number.{digit}
+use Rattle.refusals.specs.Answer.{Answer, accepted, refused}
 use Rattle.fields.specs.declared.Uint.{Uint}
 use Rattle.fields.specs.declared.Uint.the-variants as U
 use Rattle.fields.specs.declared.FieldType.{FieldType}
@@ -17,6 +18,10 @@ use Rattle.fields.specs.declared.FieldType.the-variants as T
 abbrev pub partOf : List ℕ → ℕ → ℕ → List ℕ
 partOf s at end = take (end - at) (drop at s)
 
+-- where that part begins in s; one without a byte, from no place before the other or from beyond s, is the empty part at the end of s
+abbrev pub partFrom : List ℕ → ℕ → ℕ → ℕ
+partFrom s at end = cond (ltb at end) (min at (length s)) (length s)
+
 -- "A uint is digits only, .. at most 2^64 − 1"
 unfoldable pub digitsFrom : ℕ → List ℕ → Uint
 digitsFrom n l = cond (all digit l && ltb (numberFrom n l) (2 ^ 64)) (U.Value (numberFrom n l)) U.Bad
@@ -24,6 +29,18 @@ digitsFrom n l = cond (all digit l && ltb (numberFrom n l) (2 ^ 64)) (U.Value (n
 -- "as JSON writes them": one at least, and no 0 before another
 unfoldable pub uintOf : List ℕ → Uint
 uintOf p = cond (eqb (length p) 0) U.Bad (cond (eqb (byte p 0) 0x30 && ltb 1 (length p)) U.Bad (digitsFrom 0 p))
+
+-- what an answer says; 7: "a core field of the wrong type"
+abbrev pub uintSays : Uint → Answer ℕ
+uintSays (U.Value n) = accepted n
+uintSays U.Bad = refused 7
+
+-- the same in one: "digits only, as JSON writes them, at most 2^64 − 1"
+unfoldable pub isUint : List ℕ → Bool
+isUint p = not (eqb (length p) 0) && not (eqb (byte p 0) 0x30 && ltb 1 (length p)) && all digit p && ltb (numberFrom 0 p) (2 ^ 64)
+
+abbrev pub uintAnswer : List ℕ → Answer ℕ
+uintAnswer p = cond (isUint p) (accepted (numberFrom 0 p)) (refused 7)
 
 abbrev pub isValue : Uint → Bool
 isValue (U.Value n) = true

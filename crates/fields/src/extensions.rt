@@ -1,6 +1,7 @@
 ghost use mathlib.Core.Path.{_≡_};
 ghost use Prim.Native.Nat.{_<_, _≤_, _+_};
-ghost use Rattle.fields.specs.Extensions.{classOf, counted, tallyOf, neededIf, judged, extensionOf};
+ghost use Rattle.fields.specs.Extensions.{classOf, counted, tallyOf, neededIf, judged, extensionRefusal, extensionRules};
+ghost use Rattle.refusals.specs.Refusals.{lowest};
 use crate::EntryMember;
 use crate::Extension;
 use crate::FieldType;
@@ -146,7 +147,7 @@ pub(crate) fn judge(t: Tally) -> Extension
 
 // What an entry of core:extensions is.
 pub fn extension(part: &[u8]) -> Extension
-    ensures { λ r. ⌜ r ≡ extensionOf (now (part .entry)) ⌝ }
+    ensures { λ r. ⌜ extensionRefusal r ≡ lowest (extensionRules (now (part .entry))) ⌝ }
 {
     if has_type(FieldType::Object, part) {
         let t = tally(part);

@@ -1,5 +1,6 @@
 ghost use mathlib.Core.Path.{_≡_};
-ghost use Rattle.fields.specs.Values.{partOf, digitsFrom, uintOf, isValue, numberByte, booleanByte, hasType, isTrue};
+ghost use Prim.Native.Nat.{_+_};
+ghost use Rattle.fields.specs.Values.{partOf, partFrom, digitsFrom, uintOf, uintSays, uintAnswer, isValue, numberByte, booleanByte, hasType, isTrue};
 use crate::FieldType;
 use crate::Uint;
 use tokens::is_within;
@@ -7,7 +8,9 @@ use tokens::peek;
 
 // The part of a text from a place up to another, as far as the text goes.
 pub fn part_of(s: &[u8], at: usize, end: usize) -> &[u8]
-    ensures { λ r. ⌜ now r ≡ partOf (now (s .entry)) at end ⌝ }
+    ensures part { λ r. ⌜ now r ≡ partOf (now (s .entry)) at end ⌝ }
+    ensures text { λ r. ⌜ r .ptr .0 ≡ s .entry .ptr .0 ⌝ }
+    ensures place { λ r. ⌜ r .ptr .1 ≡ s .entry .ptr .1 + partFrom (now (s .entry)) at end ⌝ }
 {
     let n = s.len();
     if n <= at {
@@ -46,7 +49,7 @@ pub(crate) fn digits_value(part: &[u8]) -> Uint
 
 // The number of a uint.
 pub fn uint(part: &[u8]) -> Uint
-    ensures { λ r. ⌜ r ≡ uintOf (now (part .entry)) ⌝ }
+    ensures { λ r. ⌜ uintSays r ≡ uintAnswer (now (part .entry)) ⌝ }
 {
     if part.len() == 0 {
         return Uint::Bad;

@@ -4,8 +4,8 @@ use mathlib.Core.List.{[], _∷_}
 use Rattle.tokens.specs.Run.{runTurns, run}
 use Rattle.tokens.specs.Text.{ascii, within, skipTurn, skipWhile}
 use Rattle.tokens.specs.Lists.{numberFrom}
-use Rattle.first_line.specs.declared.FirstLine.the-variants.{Size, Other}
-use Rattle.first_line.specs.FirstLine.{isFirstLine, firstLine}
+use Rattle.refusals.specs.Answer.{accepted, refused}
+use Rattle.first_line.specs.FirstLine.{isFirstLine, line, firstLine}
 
 -- zeros before the number, the largest number; one more, 21 digits, a carriage return, a sign, a space, an empty line, no line feed, nothing
 pub cases : firstLine (ascii "000108\n{}")
@@ -19,16 +19,16 @@ pub cases : firstLine (ascii "000108\n{}")
     ∷ firstLine (ascii "108")
     ∷ firstLine []
     ∷ []
-    ≡ Size 108 7
-    ∷ Size 18446744073709551615 21
-    ∷ Other
-    ∷ Other
-    ∷ Other
-    ∷ Other
-    ∷ Other
-    ∷ Other
-    ∷ Other
-    ∷ Other
+    ≡ accepted (line 108 7)
+    ∷ accepted (line 18446744073709551615 21)
+    ∷ refused 1
+    ∷ refused 1
+    ∷ refused 1
+    ∷ refused 1
+    ∷ refused 1
+    ∷ refused 1
+    ∷ refused 1
+    ∷ refused 1
     ∷ []
 unfolding firstLine isFirstLine numberFrom skipWhile skipTurn run runTurns within
 cases = refl

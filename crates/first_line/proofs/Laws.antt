@@ -14,9 +14,8 @@ use Rattle.tokens.specs.Lists.{numberFrom}
 use Rattle.tokens.specs.Number.{digit, skipDigits}
 use Rattle.tokens.proofs.TextLaws.{inside, cond-elim, within-above, good-inside, skip-on, skip-out, skip-onward}
 use Rattle.tokens.proofs.NumberLaws.{no-digit}
-use Rattle.first_line.specs.declared.FirstLine.{FirstLine}
-use Rattle.first_line.specs.declared.FirstLine.the-variants.{Size, Other}
-use Rattle.first_line.specs.FirstLine.{digitCount, leadingNumber, isFirstLine, firstLine}
+use Rattle.refusals.specs.Answer.{Answer, accepted, refused}
+use Rattle.first_line.specs.FirstLine.{digitCount, leadingNumber, isFirstLine, Line, line, firstLine}
 
 and-none : (a : Bool) → a && false ≡ false
 and-none true = refl
@@ -24,19 +23,19 @@ and-none false = refl
 
 -- ---- lines of another form
 module _ (s : List ℕ) where
-  too-few : digitCount s < 1 → Other ≡ firstLine s
+  too-few : digitCount s < 1 → refused 1 ≡ firstLine s
   unfolding firstLine isFirstLine within
   too-few h = rw (lt-leb _ _ h)
 
-  too-many : 20 < digitCount s → Other ≡ firstLine s
+  too-many : 20 < digitCount s → refused 1 ≡ firstLine s
   unfolding firstLine isFirstLine
   too-many h = rw (within-above 1 20 (digitCount s) h)
 
-  no-feed : (byte s (digitCount s) ≡ 0x0A → ⊥) → Other ≡ firstLine s
+  no-feed : (byte s (digitCount s) ≡ 0x0A → ⊥) → refused 1 ≡ firstLine s
   unfolding firstLine isFirstLine
   no-feed h = rw (ne-eqb _ _ h, and-none (within 1 20 (digitCount s)))
 
-  too-large : 2 ^ 64 - 1 < leadingNumber s → Other ≡ firstLine s
+  too-large : 2 ^ 64 - 1 < leadingNumber s → refused 1 ≡ firstLine s
   unfolding firstLine isFirstLine
   too-large h = rw (lt-leb _ _ h, and-none (within 1 20 (digitCount s) && eqb (byte s (digitCount s)) 0x0A))
 
@@ -68,14 +67,14 @@ module _ (s : List ℕ) (n i : ℕ) (S : Reading s n i) (b : ℕ) (z : b ≡ byt
         let w = within-count in
         rw (add-one i, z) (drop-cons (take (digitCount s) s) i 0 (omega (arith, length-take (digitCount s) s)) ∙ rw (getD-take (digitCount s) s i 0 w))
 
-    pub read-many : 20 ≤ i → Other ≡ firstLine s
+    pub read-many : 20 ≤ i → refused 1 ≡ firstLine s
     read-many g = too-many s (omega (arith, within-count))
 
     value-on : numberFrom (n * 10 + (b - 0x30)) (drop (i + 1) (take (digitCount s) s)) ≡ leadingNumber s
     unfolding numberFrom
     value-on = ap (numberFrom n) (sym next-is) ∙ S .value
 
-    pub read-over : 2 ^ 64 ≤ n * 10 + (b - 0x30) → Other ≡ firstLine s
+    pub read-over : 2 ^ 64 ≤ n * 10 + (b - 0x30) → refused 1 ≡ firstLine s
     read-over g = too-large s (omega (arith, value-on, number-onward (n * 10 + (b - 0x30)) (drop (i + 1) (take (digitCount s) s))))
 
     pub read-on : n * 10 + (b - 0x30) < 2 ^ 64 → i < 20 → Reading s (n * 10 + (b - 0x30)) (i + 1)
@@ -90,13 +89,13 @@ module _ (s : List ℕ) (n i : ℕ) (S : Reading s n i) (b : ℕ) (z : b ≡ byt
     unfolding numberFrom
     number-is = ap (numberFrom n) (sym (drop-of-length-le (take (digitCount s) s) {i = i} (omega (arith, last-is, length-take (digitCount s) s)))) ∙ S .value
 
-    pub read-none : i < 1 → Other ≡ firstLine s
+    pub read-none : i < 1 → refused 1 ≡ firstLine s
     read-none g = too-few s (omega (arith, last-is))
 
-    pub read-other : (b ≡ 0x0A → ⊥) → Other ≡ firstLine s
+    pub read-other : (b ≡ 0x0A → ⊥) → refused 1 ≡ firstLine s
     read-other g = no-feed s (λ e. g (z ∙ ap (byte s) last-is ∙ e))
 
-    pub read-feed : 1 ≤ i → b ≡ 0x0A → Size n (i + 1) ≡ firstLine s
+    pub read-feed : 1 ≤ i → b ≡ 0x0A → accepted (line n (i + 1)) ≡ firstLine s
     unfolding firstLine isFirstLine within
     read-feed g e =
         let f : byte s (digitCount s) ≡ 0x0A = ap (byte s) (sym last-is) ∙ sym z ∙ e in
@@ -121,8 +120,8 @@ feed-inside s e =
     (and-first (within 1 20 (digitCount s) && eqb (byte s (digitCount s)) 0x0A) (leb (leadingNumber s) (2 ^ 64 - 1)) e) in
     inside s (digitCount s) 0x0A (sym (eqb-true _ _ f)) (omega arith)
 
-pub line-inside : (s : List ℕ) (d at : ℕ) → firstLine s ≡ Size d at → at ≤ length s
+pub line-inside : (s : List ℕ) (d at : ℕ) → firstLine s ≡ accepted (line d at) → at ≤ length s
 unfolding firstLine
 line-inside s d at e =
-    cond-elim (λ (r : FirstLine). r ≡ Size d at → at ≤ length s) (isFirstLine s) _ _
-    (λ b h. let z : digitCount s + 1 ≡ at = cc in omega (arith, feed-inside s b)) (λ _ h. let z : _≡_ {A = ℕ} 0 1 = cc in absurd (omega arith)) e
+    cond-elim (λ (r : Answer Line). r ≡ accepted (line d at) → at ≤ length s) (isFirstLine s) _ _
+    (λ b h. let z : line (leadingNumber s) (digitCount s + 1) ≡ line d at = cc in omega (arith, feed-inside s b, ap (λ (l : Line). l .rest) z)) (λ _ h. let z : _≡_ {A = ℕ} 0 1 = cc in absurd (omega arith)) e

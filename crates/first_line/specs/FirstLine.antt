@@ -7,6 +7,7 @@ use lib.ListN.{take}
 use lib.Dec.{leb, eqb}
 use Rattle.tokens.specs.Text.{byte, within}
 use Rattle.tokens.specs.Number.{skipDigits}
+use Rattle.refusals.specs.Answer.{Answer, accepted, refused}
 use Rattle.decimal.specs.Decimal.{numberOf}
 use Rattle.first_line.specs.declared.FirstLine.{FirstLine}
 use Rattle.first_line.specs.declared.FirstLine.the-variants.{Size, Other}
@@ -22,6 +23,19 @@ leadingNumber s = numberOf (take (digitCount s) s)
 unfoldable pub isFirstLine : List ℕ → Bool
 isFirstLine s = within 1 20 (digitCount s) && eqb (byte s (digitCount s)) 0x0A && leb (leadingNumber s) (2 ^ 64 - 1)
 
--- D, and the place past the line feed
-unfoldable pub firstLine : List ℕ → FirstLine
-firstLine s = cond (isFirstLine s) (Size (leadingNumber s) (digitCount s + 1)) Other
+-- D, and the place past the line feed, where the metadata begin
+pub record Line : Type 0 where
+  pub size : ℕ
+  pub rest : ℕ
+
+abbrev pub line : ℕ → ℕ → Line
+line d at = record { size = d; rest = at }
+
+-- "any other first line prints `refused 1`"
+unfoldable pub firstLine : List ℕ → Answer Line
+firstLine s = cond (isFirstLine s) (accepted (line (leadingNumber s) (digitCount s + 1))) (refused 1)
+
+-- what an answer says
+abbrev pub lineSays : FirstLine → Answer Line
+lineSays (Size d at) = accepted (line d at)
+lineSays Other = refused 1

@@ -1,6 +1,6 @@
 // The first line of the program's input.
 ghost use mathlib.Core.Path.{_≡_};
-ghost use Rattle.first_line.specs.FirstLine.{firstLine};
+ghost use Rattle.first_line.specs.FirstLine.{firstLine, lineSays};
 
 // The dataset's length and the place past the line feed, or that the line has another form.
 pub enum FirstLine {
@@ -13,7 +13,7 @@ const DIGITS: usize = 20;
 
 // The first line of an input: digits and a line feed.
 pub fn first_line(input: &[u8]) -> FirstLine
-    ensures { λ r. ⌜ r ≡ firstLine (now (input .entry)) ⌝ }
+    ensures { λ r. ⌜ lineSays r ≡ firstLine (now (input .entry)) ⌝ }
 {
     let mut n: u64 = 0;
     let mut i: usize = 0;

@@ -6,6 +6,7 @@ use Prim.Native.Nat.{ℕ, _≤_, _<_}
 use lib.ListN.{length}
 use borrow.Author.Tests.{lt-leb, le-leb}
 use Rattle.limits.specs.Limits.{nesting}
+use Rattle.refusals.specs.Refusals.{lowest}
 use Rattle.tokens.specs.Text.{skipBlanks}
 use Rattle.tokens.specs.declared.Cursor.{Cursor}
 use Rattle.tokens.specs.declared.Read.the-variants as R
@@ -14,12 +15,12 @@ use Rattle.json.specs.declared.Scan.{Scan}
 use Rattle.json.specs.declared.Scan.the-variants as S
 use Rattle.json.specs.declared.Judged.the-variants.{Good, NotJson, BadMembers}
 use Rattle.json.specs.Names.{badMembersAt}
-use Rattle.json.specs.Judged.{scanned, judged}
+use Rattle.json.specs.Judged.{scanned, judgeRules, refusalOf}
 use Rattle.json.proofs.PassLaws.{scan-bad, scan-to}
 
 module _ (s : List ℕ) (i : ℕ) (ei : i ≡ skipBlanks s 0) (r : Scan) (er : r ≡ scanned (valueAt nesting s i) (badMembersAt nesting s i)) where
-  pub judge-none : r ≡ S.Bad → NotJson ≡ judged s
-  unfolding judged isJson
+  pub judge-none : r ≡ S.Bad → refusalOf NotJson ≡ lowest (judgeRules s)
+  unfolding lowest isJson
   judge-none h = rw (← ei, scan-bad (valueAt nesting s i) (badMembersAt nesting s i) (sym h ∙ er))
 
   module _ (c : Cursor) (bad : Bool) (h : r ≡ S.To c bad) (at : ℕ) (ea : at ≡ skipBlanks s (c .at)) where
@@ -29,14 +30,14 @@ module _ (s : List ℕ) (i : ℕ) (ei : i ≡ skipBlanks s 0) (r : Scan) (er : r
     bad-is : badMembersAt nesting s i ≡ bad
     bad-is = scan-to (valueAt nesting s i) (badMembersAt nesting s i) c bad (sym h ∙ er) .1
 
-    pub judge-more : at < length s → NotJson ≡ judged s
-    unfolding judged isJson
+    pub judge-more : at < length s → refusalOf NotJson ≡ lowest (judgeRules s)
+    unfolding lowest isJson
     judge-more l = rw (← ei, value-is, ← ea, lt-leb _ _ l)
 
-    pub judge-bad : length s ≤ at → bad ≡ true → BadMembers ≡ judged s
-    unfolding judged isJson
+    pub judge-bad : length s ≤ at → bad ≡ true → refusalOf BadMembers ≡ lowest (judgeRules s)
+    unfolding lowest isJson
     judge-bad l b = rw (← ei, value-is, ← ea, le-leb _ _ l, bad-is, b)
 
-    pub judge-good : length s ≤ at → bad ≡ false → Good ≡ judged s
-    unfolding judged isJson
+    pub judge-good : length s ≤ at → bad ≡ false → refusalOf Good ≡ lowest (judgeRules s)
+    unfolding lowest isJson
     judge-good l b = rw (← ei, value-is, ← ea, le-leb _ _ l, bad-is, b)

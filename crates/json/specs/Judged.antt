@@ -1,8 +1,9 @@
 -- A whole text: refusals 2 and 3 of document 01.
-use mathlib.Core.Bool.{Bool, cond}
-use mathlib.Core.List.{List}
+use mathlib.Core.Bool.{Bool, not}
+use mathlib.Core.List.{List, [], _∷_}
 use Prim.Native.Nat.{ℕ}
 use Rattle.limits.specs.Limits.{nesting}
+use Rattle.refusals.specs.Refusals.{Rule, rule}
 use Rattle.tokens.specs.Text.{skipBlanks}
 use Rattle.tokens.specs.declared.Read.{Read}
 use Rattle.tokens.specs.declared.Read.the-variants as R
@@ -27,8 +28,16 @@ abbrev pub named : Name → ℕ → Named
 named (N.At q v) key = D.At v key
 named N.Bad key = D.Bad
 
-unfoldable pub judged : List ℕ → Judged
-judged s = cond (isJson s) (cond (badMembersAt nesting s (skipBlanks s 0)) BadMembers Good) NotJson
+-- 2: "not one JSON value in valid UTF-8, or nested beyond 32"
+abbrev pub notJson : List ℕ → Bool
+notJson s = not (isJson s)
+
+-- 3: "some object, however deep, has a name twice or over 256 members"
+abbrev pub badMembers : List ℕ → Bool
+badMembers s = badMembersAt nesting s (skipBlanks s 0)
+
+abbrev pub judgeRules : List ℕ → List Rule
+judgeRules s = rule 2 (notJson s) ∷ rule 3 (badMembers s) ∷ []
 
 -- document 01's number for each answer
 abbrev pub refusalOf : Judged → ℕ

@@ -5,7 +5,8 @@ mod values;
 ghost use mathlib.Core.Path.{_≡_};
 ghost use Prim.Native.Nat.{_≤_};
 ghost use lib.ListN.{length};
-ghost use Rattle.json.specs.Judged.{judged};
+ghost use Rattle.refusals.specs.Refusals.{lowest};
+ghost use Rattle.json.specs.Judged.{refusalOf, judgeRules};
 use crate::values::judge_with;
 use limits::Limits;
 
@@ -49,7 +50,7 @@ const FEW: usize = 1024;
 const SHORT: usize = 4096;
 
 pub fn judge(s: &[u8]) -> Judged
-    ensures { λ r. ⌜ r ≡ judged (now (s .entry)) ⌝ }
+    ensures { λ r. ⌜ refusalOf r ≡ lowest (judgeRules (now (s .entry))) ⌝ }
 {
     if s.len() <= SHORT {
         return judge_short(s);
@@ -59,7 +60,7 @@ pub fn judge(s: &[u8]) -> Judged
 
 fn judge_short(s: &[u8]) -> Judged
     requires { ⌜ length (now s) ≤ 4096 ⌝ }
-    ensures { λ r. ⌜ r ≡ judged (now (s .entry)) ⌝ }
+    ensures { λ r. ⌜ refusalOf r ≡ lowest (judgeRules (now (s .entry))) ⌝ }
 {
     let mut places = [0usize; FEW];
     let mut keys = [0u32; FEW];
@@ -67,7 +68,7 @@ fn judge_short(s: &[u8]) -> Judged
 }
 
 fn judge_long(s: &[u8]) -> Judged
-    ensures { λ r. ⌜ r ≡ judged (now (s .entry)) ⌝ }
+    ensures { λ r. ⌜ refusalOf r ≡ lowest (judgeRules (now (s .entry))) ⌝ }
 {
     let mut places = [0usize; NAMES];
     let mut keys = [0u32; NAMES];

@@ -8,7 +8,8 @@ ghost use Rattle.tokens.specs.Group.{nameAt};
 ghost use Rattle.decode.specs.Decode.{decodedFrom};
 ghost use Rattle.decode.specs.Same.{keyOf};
 ghost use Rattle.grammar.specs.Reading.{valueAt, arrayAt, objectAt};
-ghost use Rattle.json.specs.Judged.{scanned, named, judged};
+ghost use Rattle.json.specs.Judged.{scanned, named, refusalOf, judgeRules};
+ghost use Rattle.refusals.specs.Refusals.{lowest};
 ghost use Rattle.json.specs.Names.{badMembersAt};
 ghost use Rattle.json.specs.Stack.{badArrayAt, badObjectAt, Kept, Room};
 use crate::Judged;
@@ -213,7 +214,7 @@ pub(crate) fn object(
 pub(crate) fn judge_with(s: &[u8], places: &mut [usize], keys: &mut [u32]) -> Judged
     requires { ⌜ Room nesting (now s) 1 0 (length (now places)) ⌝ }
     requires { ⌜ Room nesting (now s) 1 0 (length (now keys)) ⌝ }
-    ensures { λ r. ⌜ r ≡ judged (now (s .entry)) ⌝ }
+    ensures { λ r. ⌜ refusalOf r ≡ lowest (judgeRules (now (s .entry))) ⌝ }
 {
     let c = Cursor { at: 0 }.skip_indent(s);
     let i = c.at;

@@ -2,7 +2,7 @@
 use Prim.Native.Nat.{ℕ}
 use mathlib.Core.Bool.{Bool, true, _&&_, cond}
 use mathlib.Core.List.{List, [], _∷_}
-use lib.Dec.{ltb}
+use lib.Dec.{eqb, ltb}
 use Rattle.table.specs.declared.Annotation.{Annotation}
 use Rattle.table.specs.declared.Summary.{Summary}
 use Rattle.table.specs.Rows.{annotationAt}
@@ -33,6 +33,11 @@ none = record { refusal = 0; present = 0; label = [] }
 
 abbrev pub found : List ℕ → Found
 found l = record { refusal = 0; present = 1; label = l }
+
+-- where the part handed back begins in the metadata: at the label's place. Document 01 leaves free where the empty part of an absent
+-- or refused one stands: at the front.
+abbrev pub labelFrom : Found → ℕ → ℕ
+labelFrom f at = cond (eqb (f .present) 1) at 0
 
 -- the label of one annotation
 unfoldable pub labelOf : List ℕ → Annotation → Found

@@ -1,7 +1,9 @@
 // The label of an annotation, as a part of the lent metadata.
 ghost use mathlib.Core.Path.{_≡_};
-ghost use Rattle.labels.specs.Text.{absent, part, stands, textGood};
-ghost use Rattle.labels.specs.Label.{labelAnswer, labelOf};
+ghost use Prim.Native.Nat.{_+_};
+ghost use Rattle.table.specs.Rows.{annotationAt};
+ghost use Rattle.labels.specs.Text.{absent, part, partFrom, stands, textGood};
+ghost use Rattle.labels.specs.Label.{labelAnswer, labelFrom, labelOf};
 use table::Annotation;
 use table::Summary;
 
@@ -17,7 +19,9 @@ pub fn is_absent(at: u64, len: u64) -> bool
 
 // The part of a text from a place on, of a length, as far as the text goes.
 pub fn text_part(s: &[u8], at: u64, len: u64) -> &[u8]
-    ensures { λ r. ⌜ now r ≡ part (now (s .entry)) at len ⌝ }
+    ensures part { λ r. ⌜ now r ≡ part (now (s .entry)) at len ⌝ }
+    ensures text { λ r. ⌜ r .ptr .0 ≡ s .entry .ptr .0 ⌝ }
+    ensures place { λ r. ⌜ r .ptr .1 ≡ s .entry .ptr .1 + partFrom (now (s .entry)) at ⌝ }
 {
     let n = s.len();
     if at >= n as u64 {
@@ -71,6 +75,8 @@ fn label_of<'a>(s: &'a [u8], x: Annotation, refusal: &mut u64, present: &mut u64
     ensures label { λ r. ⌜ now r ≡ labelOf (now (s .entry)) x .label ⌝ }
     ensures refusal { λ r. ⌜ now (refusal .exit) ≡ labelOf (now (s .entry)) x .refusal ⌝ }
     ensures present { λ r. ⌜ now (present .exit) ≡ labelOf (now (s .entry)) x .present ⌝ }
+    ensures text { λ r. ⌜ r .ptr .0 ≡ s .entry .ptr .0 ⌝ }
+    ensures place { λ r. ⌜ r .ptr .1 ≡ s .entry .ptr .1 + labelFrom (labelOf (now (s .entry)) x) (x .label) ⌝ }
 {
     *refusal = 0;
     *present = 0;
@@ -98,6 +104,8 @@ pub fn label<'a>(
     ensures label { λ r. ⌜ now r ≡ labelAnswer t (now (caps .entry)) (now (notes .entry)) (now (s .entry)) n .label ⌝ }
     ensures refusal { λ r. ⌜ now (refusal .exit) ≡ labelAnswer t (now (caps .entry)) (now (notes .entry)) (now (s .entry)) n .refusal ⌝ }
     ensures present { λ r. ⌜ now (present .exit) ≡ labelAnswer t (now (caps .entry)) (now (notes .entry)) (now (s .entry)) n .present ⌝ }
+    ensures text { λ r. ⌜ r .ptr .0 ≡ s .entry .ptr .0 ⌝ }
+    ensures place { λ r. ⌜ r .ptr .1 ≡ s .entry .ptr .1 + labelFrom (labelAnswer t (now (caps .entry)) (now (notes .entry)) (now (s .entry)) n) (annotationAt (now (notes .entry)) n .label) ⌝ }
 {
     *present = 0;
     if table::well_formed(t, caps, notes) {

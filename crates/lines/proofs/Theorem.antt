@@ -42,7 +42,7 @@ module _ (t : Summary) (caps notes s : List ℕ) where
       ap splitLines (append-assoc (recordingLine t) c n) ∙ recording-line t (c ++ n)
       ∙ ap (λ (x : List (List ℕ)). recordingLine t ∷ x) (split-rows captureLine capture-line (capturesOf t caps) n ∙ ap (λ (x : List (List ℕ)). map captureLine (capturesOf t caps) ++ x) e)
 
-  captures-count : length (recordingLine t ∷ map captureLine (capturesOf t caps)) ≡ 1 + t .captures
+  pub captures-count : length (recordingLine t ∷ map captureLine (capturesOf t caps)) ≡ 1 + t .captures
   captures-count = ap suc (length-map (capturesOf t caps) captureLine ∙ all-count (captureAt caps) (t .captures)) ∙ omega arith
 
   -- as many lines as "the recording, each capture and each annotation"

@@ -9,13 +9,14 @@ use lib.ListN.{length, take, drop}
 use lib.Dec.{eqb}
 use borrow.Author.Tests.{eq-eqb, ne-eqb}
 use Rattle.refusals.specs.Refusals.{rule, lowest}
+use Rattle.refusals.specs.Answer.{Answer, accepted, refused, orRefused}
 use Rattle.grammar.specs.Skip.{skipValue}
 use Rattle.texts.specs.declared.Date.{Date}
 use Rattle.texts.specs.declared.Clock.{Clock}
 use Rattle.texts.specs.declared.Datetime.{Datetime}
 use Rattle.texts.specs.declared.Datetime.the-variants as T
 use Rattle.texts.specs.Texts.{valueText}
-use Rattle.texts.specs.Datetimes.{Moment, datetimeOf, datetimeSays}
+use Rattle.texts.specs.Datetimes.{Moment, datetimeOf, datetimeSays, datetimeAnswer}
 use Rattle.fields.specs.declared.Uint.{Uint}
 use Rattle.fields.specs.declared.Uint.the-variants as U
 use Rattle.fields.specs.Values.{partOf, uintOf}
@@ -26,6 +27,14 @@ use Rattle.objects.specs.Places.{noted}
 use Rattle.objects.specs.Capture.{isNone, breaksRule}
 use Rattle.objects.specs.Annotation.{countOf, textPlace, textLength, countBy, textPlaceBy, textLengthBy}
 use Rattle.fields.proofs.ValueLaws.{part-rest}
+
+abbrev isRefused : Answer Moment → Bool
+isRefused (accepted m) = false
+isRefused (refused n) = true
+
+refused-none : (x : Option Moment) → isRefused (orRefused 11 x) ≡ isNone x
+refused-none (some m) = refl
+refused-none none = refl
 
 module _ (s : List ℕ) (p : ℕ) where
   -- ---- no value
@@ -59,8 +68,8 @@ module _ (s : List ℕ) (p : ℕ) where
       pub uint-is : (z : ℕ) (u : Uint) → u ≡ uintOf part → numberOf u ≡ uintOr z (noted s p)
       uint-is z u q = ap numberOf q ∙ given-some z (λ v. numberOf (uintOf (v .part)))
 
-      pub breaks-is : (d : Datetime) → datetimeSays part d ≡ datetimeOf (valueText part) → isNone (datetimeSays part d) ≡ breaksRule (noted s p)
-      breaks-is d q = ap isNone q ∙ given-some false (λ v. isNone (datetimeOf (valueText (v .part))))
+      pub breaks-is : (d : Datetime) → datetimeSays part d ≡ datetimeAnswer (valueText part) → isRefused (datetimeSays part d) ≡ breaksRule (noted s p)
+      breaks-is d q = ap isRefused q ∙ refused-none (datetimeOf (valueText part)) ∙ given-some false (λ v. isNone (datetimeOf (valueText (v .part))))
 
 -- ---- by the size
 pub count-by : (s : List ℕ) (p n : ℕ) → n ≡ uintOr 0 (noted s p) → countBy p n ≡ countOf (noted s p)
@@ -122,7 +131,7 @@ module _ (s : List ℕ) (p q : ℕ) where
     unfolding lowest
     low-undated e = rw (← present s p f, ← given-none s q e false (λ v. isNone (datetimeOf (valueText (v .part)))))
 
-    module _ (g : q ≡ 0 → ⊥) (part : List ℕ) (e : part ≡ partOf s q (skipValue s q)) (d : Datetime) (ed : datetimeSays part d ≡ datetimeOf (valueText part)) where
+    module _ (g : q ≡ 0 → ⊥) (part : List ℕ) (e : part ≡ partOf s q (skipValue s q)) (d : Datetime) (ed : datetimeSays part d ≡ datetimeAnswer (valueText part)) where
       pub low-broken : d ≡ T.Bad → 11 ≡ lowest (rule 6 (isAbsent (noted s p)) ∷ rule 11 (breaksRule (noted s q)) ∷ [])
       unfolding lowest
       low-broken h = rw (← present s p f, ← breaks-is s q g part e d ed, h)

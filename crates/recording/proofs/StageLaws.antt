@@ -7,18 +7,17 @@ use native.Mathlib.Omega.{arith}
 use lib.ListN.{length}
 use lib.Dec.{eqb, ltb}
 use borrow.Author.Tests.{eq-eqb, ne-eqb, lt-ltb, le-ltb, ltb-false}
-use Rattle.limits.specs.Limits.{metadata, dataset, nesting, channels}
+use Rattle.limits.specs.Limits.{metadata, dataset, channels}
 use Rattle.refusals.specs.Refusals.{Rule, rule, lowest}
 use Rattle.tokens.specs.Text.{within}
 use Rattle.grammar.specs.Reading.{isJson}
-use Rattle.json.specs.Names.{badMembersAt}
-use Rattle.json.specs.Judged.{judged, refusalOf}
+use Rattle.json.specs.Judged.{judgeRules, refusalOf}
 use Rattle.json.specs.declared.Judged.{Judged}
 use Rattle.datatypes.specs.Datatypes.{listed}
 use Rattle.table.specs.Table.{refused}
 use Rattle.layout.specs.Layout.{Contents, tooMany, layoutRules, layoutRefusal, judgedLayout, layoutAnswer, capturesAfter, annotationsAfter}
 use Rattle.objects.specs.Global.{otherDatatype, badChannels}
-use Rattle.recording.specs.File.{topAt, fileOf, contentsOf}
+use Rattle.recording.specs.File.{fileOf, contentsOf}
 use Rattle.recording.specs.Reading.{badLength, rulesOf, readRules, contents, judgement, readRefusal, readAnswer, capturesRead, annotationsRead}
 use Rattle.recording.specs.Parts.{textRules, partRules, sampleRules}
 
@@ -83,16 +82,9 @@ module _ (s : List ℕ) (d : ℕ) where
     unfolding lowest badLength
     data-long g = rw (ne-eqb (length s) 0 f, le-ltb metadata (length s) h, lt-ltb dataset d g)
 
-    judged-lows : (a b : Bool) → isJson s ≡ a → badMembersAt nesting s (topAt s) ≡ b → refusalOf (judged s) ≡ lowest (rule 2 (not a) ∷ rule 3 b ∷ [])
-    unfolding lowest judged
-    judged-lows true true p q = rw (p, q)
-    judged-lows true false p q = rw (p, q)
-    judged-lows false b p q = rw p
-
-    pub text-judged : d ≤ 281474976710656 → (j : Judged) → j ≡ judged s → refusalOf j ≡ lowest (textRules s d)
+    pub text-judged : d ≤ 281474976710656 → (j : Judged) → refusalOf j ≡ lowest (judgeRules s) → refusalOf j ≡ lowest (textRules s d)
     unfolding lowest badLength
-    text-judged g j e =
-        rw (e, ne-eqb (length s) 0 f, le-ltb metadata (length s) h, le-ltb dataset d g) (judged-lows (isJson s) (badMembersAt nesting s (topAt s)) refl refl)
+    text-judged g j e = rw (ne-eqb (length s) 0 f, le-ltb metadata (length s) h, le-ltb dataset d g) e
 
   module _ (e : lowest (textRules s d) ≡ 0) where
     text-holds : (i : ℕ) → holdsAt i (textRules s d) ≡ false

@@ -5,10 +5,9 @@ use Prim.Native.Nat.{ℕ}
 use lib.ListN.{length}
 use lib.Dec.{eqb, ltb}
 use Rattle.tokens.specs.Lists.{any}
-use Rattle.limits.specs.Limits.{metadata, dataset, nesting}
+use Rattle.limits.specs.Limits.{metadata, dataset}
 use Rattle.refusals.specs.Refusals.{Rule, rule, lowest}
-use Rattle.grammar.specs.Reading.{isJson}
-use Rattle.json.specs.Names.{badMembersAt}
+pub use Rattle.json.specs.Judged.{notJson, badMembers}
 use Rattle.fields.specs.Names.{globals, captures, annotations}
 use Rattle.table.specs.declared.Summary.{Summary}
 use Rattle.table.specs.Memory.{written}
@@ -23,13 +22,8 @@ use Rattle.recording.specs.File.{File, topAt, named, isObject, isListing
 unfoldable pub badLength : List ℕ → ℕ → Bool
 badLength s d = eqb (length s) 0 || ltb metadata (length s) || ltb dataset d
 
--- 2: "not one JSON value in valid UTF-8, or nested beyond 32"
-abbrev pub notJson : List ℕ → Bool
-notJson s = not (isJson s)
-
--- 3: "some object, however deep, has a name twice or over 256 members"
-abbrev pub badMembers : List ℕ → Bool
-badMembers s = badMembersAt nesting s (topAt s)
+-- 2: "not one JSON value in valid UTF-8, or nested beyond 32"; 3: "some object, however deep, has a name twice or over 256 members":
+-- `notJson` and `badMembers`, as the judge of the text alone has them (json/specs/Judged.antt)
 
 -- 4: "top level not an object; `global` not an object, `captures` or `annotations` not an array, or one missing; an element of
 -- either array not an object"

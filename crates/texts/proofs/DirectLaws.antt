@@ -10,8 +10,9 @@ use borrow.Author.Tests.{leb-true, eqb-true}
 use Rattle.tokens.specs.Text.{byte}
 use Rattle.tokens.specs.Number.{digit}
 use Rattle.tokens.proofs.TextLaws.{inside, within-is}
-use Rattle.decode.specs.Decode.{stream}
-use Rattle.decode.proofs.DecodeLaws.{next-plain}
+use Rattle.decode.specs.declared.Stream.the-variants.{Next}
+use Rattle.decode.specs.Decode.{nextByte, stream}
+use Rattle.decode.proofs.DecodeLaws.{next-plain, streamed-next}
 use Rattle.texts.specs.declared.Pair.the-variants as P
 use Rattle.texts.specs.Datetimes.{got, pairOf, pairThen, dateOf, clockOf, hasPair, hasPairThen, pairAt, hasDate, hasClock}
 use Rattle.texts.proofs.DatetimeLaws.{pair-both, mark-3, date-5, clock-4}
@@ -25,8 +26,11 @@ module _ (s : List ℕ) (at b : ℕ) (e : b ≡ byte s at) (w : (0x2D ≤ b) × 
   pub self-inside : at < length s
   self-inside = inside s at b e (omega arith)
 
-  pub self-next : (k i : ℕ) → k ≡ 0 → i ≡ at + 1 → b ∷ stream s i 0 ≡ stream s at k
+  pub self-next : (k i : ℕ) → k ≡ 0 → i ≡ at + 1 → Next b i 0 ≡ nextByte s at k
   self-next k i q p = rw (e, p) (next-plain s at k self-inside (λ z. omega arith) (λ z. omega arith) q)
+
+  self-stream : (i : ℕ) → i ≡ at + 1 → stream s at 0 ≡ b ∷ stream s i 0
+  self-stream i p = streamed-next s at 0 (Next b i 0) (self-next 0 i refl p) b i 0 refl
 
 -- ---- two digits
 module _ (s : List ℕ) (at : ℕ) (h : hasPair s at ≡ true) where
@@ -48,8 +52,8 @@ module _ (s : List ℕ) (at : ℕ) (h : hasPair s at ≡ true) where
   unfolding pairAt
   pair-self i e =
       let d = pair-digits in
-      pair-both _ _ _ (sym (self-next s at _ refl (omega arith, omega arith) 0 (at + 1) refl refl)) _ _
-      (sym (self-next s (at + 1) _ refl (omega arith, omega arith) 0 i refl (omega arith))) (digits .0) (digits .1)
+      pair-both _ _ _ (self-stream s at _ refl (omega arith, omega arith) (at + 1) refl) _ _
+      (self-stream s (at + 1) _ refl (omega arith, omega arith) i (omega arith)) (digits .0) (digits .1)
 
 -- ---- two digits and a mark
 module _ (mark : ℕ) (s : List ℕ) (at : ℕ) (h : hasPairThen mark s at ≡ true) where
@@ -61,7 +65,7 @@ module _ (mark : ℕ) (s : List ℕ) (at : ℕ) (h : hasPairThen mark s at ≡ t
   then-self w i e =
       let q = eqb-true (byte s (at + 2)) mark (marked .1) in
       mark-3 s mark at 0 (P.Value (pairAt s at) (at + 2) 0) (pair-self s at (marked .0) _ refl) _ _ _ refl _ _
-      (sym (self-next s (at + 2) _ refl (omega arith, omega arith) 0 i refl (omega arith))) q
+      (self-stream s (at + 2) _ refl (omega arith, omega arith) i (omega arith)) q
 
 -- ---- a date
 record DateAt (s : List ℕ) (at : ℕ) : Type 0 where

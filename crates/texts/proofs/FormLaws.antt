@@ -2,13 +2,13 @@
 use mathlib.Core.Path.{_≡_, refl, sym, ap, _∙_}
 use mathlib.Core.Bool.{Bool, true, false, cond, not, _&&_}
 use mathlib.Core.List.{List, [], _∷_}
-use mathlib.Core.Option.{Option, none, some}
 use Prim.Native.Nat.{ℕ}
 use lib.Dec.{eqb}
 use borrow.Author.Tests.{eq-eqb, ne-eqb}
 use Rattle.tokens.specs.Lists.{all}
 use Rattle.tokens.specs.Number.{digit}
 use Rattle.decode.specs.Decode.{stream}
+use Rattle.refusals.specs.Answer.{Answer, accepted, refused}
 use Rattle.texts.specs.declared.NameForm.{NameForm}
 use Rattle.texts.specs.declared.NameForm.the-variants as F
 use Rattle.texts.specs.Form.{nameByte, spaceByte, begun, space, rest, formOk, formOf, partAfter, pastSpace}
@@ -22,7 +22,7 @@ module _ (x : List ℕ) where
   unfolding space
   space-end e = rw e
 
-  pub past-end : x ≡ [] → none ≡ pastSpace x
+  pub past-end : x ≡ [] → refused 5 ≡ pastSpace x
   unfolding pastSpace
   past-end e = rw e
 
@@ -42,7 +42,7 @@ module _ (x : List ℕ) where
     unfolding space
     space-is t h d = rw (e, ne-eqb _ _ h, d)
 
-    pub past-colon : b ≡ 0x3A → some y ≡ pastSpace x
+    pub past-colon : b ≡ 0x3A → accepted y ≡ pastSpace x
     unfolding pastSpace
     past-colon h = rw (e, eq-eqb _ _ h)
 
@@ -50,7 +50,7 @@ module _ (x : List ℕ) where
     unfolding pastSpace
     past-on h t = rw (e, ne-eqb _ _ h, t)
 
-    pub past-not : (b ≡ 0x3A → ⊥) → spaceByte b ≡ false → none ≡ pastSpace x
+    pub past-not : (b ≡ 0x3A → ⊥) → spaceByte b ≡ false → refused 5 ≡ pastSpace x
     unfolding pastSpace
     past-not h t = rw (e, ne-eqb _ _ h, t)
 
@@ -64,24 +64,24 @@ module _ (x : List ℕ) where
       all-not t = rw (e, t)
 
 -- ---- the namespace and then the part
-abbrev thenPart : Option (List ℕ) → Option (List ℕ)
-thenPart none = none
-thenPart (some l) = cond (begun l && all nameByte l) (some l) none
+abbrev thenPart : Answer (List ℕ) → Answer (List ℕ)
+thenPart (refused n) = refused n
+thenPart (accepted l) = cond (begun l && all nameByte l) (accepted l) (refused 5)
 
-past-is : (d : List ℕ) → cond (all spaceByte (space d) && begun (rest d) && all nameByte (rest d)) (some (rest d)) none ≡ thenPart (pastSpace d)
+past-is : (d : List ℕ) → cond (all spaceByte (space d) && begun (rest d) && all nameByte (rest d)) (accepted (rest d)) (refused 5) ≡ thenPart (pastSpace d)
 unfolding space rest pastSpace all
 past-is [] = refl
 past-is (b ∷ l) = go (eqb b 0x3A) (spaceByte b) refl (past-is l) where
   go : (t u : Bool) → spaceByte b ≡ u
-      → cond (all spaceByte (space l) && begun (rest l) && all nameByte (rest l)) (some (rest l)) none ≡ thenPart (pastSpace l)
-      → cond (all spaceByte (cond t [] (b ∷ space l)) && begun (cond t l (rest l)) && all nameByte (cond t l (rest l))) (some (cond t l (rest l))) none
-      ≡ thenPart (cond t (some l) (cond u (pastSpace l) none))
+      → cond (all spaceByte (space l) && begun (rest l) && all nameByte (rest l)) (accepted (rest l)) (refused 5) ≡ thenPart (pastSpace l)
+      → cond (all spaceByte (cond t [] (b ∷ space l)) && begun (cond t l (rest l)) && all nameByte (cond t l (rest l))) (accepted (cond t l (rest l))) (refused 5)
+      ≡ thenPart (cond t (accepted l) (cond u (pastSpace l) (refused 5)))
   go true u q h = refl
   go false true q h = rw q h
   go false false q h = rw q
 
 module _ (d : List ℕ) where
-  pub form-1 : begun (space d) ≡ false → none ≡ formOf d
+  pub form-1 : begun (space d) ≡ false → refused 5 ≡ formOf d
   unfolding formOf formOk
   form-1 h = rw h
 
@@ -90,19 +90,19 @@ module _ (d : List ℕ) where
     unfolding formOf formOk
     split = ap thenPart ef ∙ sym (rw h (past-is d))
 
-    pub form-2 : f ≡ F.Bad → none ≡ formOf d
+    pub form-2 : f ≡ F.Bad → refused 5 ≡ formOf d
     form-2 e = sym (ap (λ (g : NameForm). thenPart (partAfter raw g)) e) ∙ split
 
     module _ (at k : ℕ) (e : f ≡ F.After at k) where
-      part : thenPart (some (stream raw at k)) ≡ formOf d
+      part : thenPart (accepted (stream raw at k)) ≡ formOf d
       part = sym (ap (λ (g : NameForm). thenPart (partAfter raw g)) e) ∙ split
 
-      pub form-3 : begun (stream raw at k) ≡ false → none ≡ formOf d
+      pub form-3 : begun (stream raw at k) ≡ false → refused 5 ≡ formOf d
       form-3 b = sym (rw b) ∙ part
 
       module _ (b : begun (stream raw at k) ≡ true) where
-        pub form-4 : all nameByte (stream raw at k) ≡ false → none ≡ formOf d
+        pub form-4 : all nameByte (stream raw at k) ≡ false → refused 5 ≡ formOf d
         form-4 n = sym (rw (b, n)) ∙ part
 
-        pub form-5 : all nameByte (stream raw at k) ≡ true → some (stream raw at k) ≡ formOf d
+        pub form-5 : all nameByte (stream raw at k) ≡ true → accepted (stream raw at k) ≡ formOf d
         form-5 n = sym (rw (b, n)) ∙ part

@@ -8,6 +8,7 @@ use lib.Dec.{eqb, leb}
 use Rattle.tokens.specs.Text.{byte}
 use Rattle.tokens.specs.Number.{digit}
 use Rattle.decode.specs.Decode.{stream}
+use Rattle.refusals.specs.Answer.{Answer, accepted, refused, orRefused}
 use Rattle.texts.specs.declared.Date.{Date}
 use Rattle.texts.specs.declared.Clock.{Clock}
 use Rattle.texts.specs.declared.Pair.{Pair}
@@ -143,9 +144,14 @@ abbrev pub fractionSays : List ℕ → Fraction → Option (List ℕ)
 fractionSays s (F.At at k) = some (leadingDigits (stream s at k))
 fractionSays s F.Bad = none
 
-abbrev pub datetimeSays : List ℕ → Datetime → Option Moment
-datetimeSays s (T.At d c at k) = some (record { date = d; clock = c; fraction = leadingDigits (stream s at k) })
-datetimeSays s T.Bad = none
+-- Document 01 leaves free by which place the fraction is told; its digits are those that the decoded text from there on begins with.
+-- 11: "a `core:datetime` breaks its rule"
+abbrev pub datetimeSays : List ℕ → Datetime → Answer Moment
+datetimeSays s (T.At d c at k) = accepted (record { date = d; clock = c; fraction = leadingDigits (stream s at k) })
+datetimeSays s T.Bad = refused 11
+
+abbrev pub datetimeAnswer : List ℕ → Answer Moment
+datetimeAnswer t = orRefused 11 (datetimeOf t)
 
 -- ---- for the code: a date and a time of day at a place of a text s, whose bytes stand for themselves
 unfoldable pub hasPair : List ℕ → ℕ → Bool

@@ -1,13 +1,13 @@
 -- The form of a field name (document 01, "Fields"). d is the decoded name.
 use mathlib.Core.Bool.{Bool, false, cond, not, _&&_, _||_}
 use mathlib.Core.List.{List, [], _∷_}
-use mathlib.Core.Option.{Option, none, some}
 use Prim.Native.Nat.{ℕ}
 use lib.Dec.{eqb}
 use Rattle.tokens.specs.Text.{within}
 use Rattle.tokens.specs.Lists.{all}
 use Rattle.tokens.specs.Number.{digit}
 use Rattle.decode.specs.Decode.{stream}
+use Rattle.refusals.specs.Answer.{Answer, accepted, refused}
 use Rattle.texts.specs.declared.NameForm.{NameForm}
 use Rattle.texts.specs.declared.NameForm.the-variants as F
 
@@ -37,16 +37,17 @@ rest (b ∷ l) = cond (eqb b 0x3A) l (rest l)
 unfoldable pub formOk : List ℕ → Bool
 formOk d = begun (space d) && all spaceByte (space d) && begun (rest d) && all nameByte (rest d)
 
--- the part after the colon of a name of the form
-unfoldable pub formOf : List ℕ → Option (List ℕ)
-formOf d = cond (formOk d) (some (rest d)) none
+-- the part after the colon of a name of the form; 5: "a field name .. has the wrong form"
+unfoldable pub formOf : List ℕ → Answer (List ℕ)
+formOf d = cond (formOk d) (accepted (rest d)) (refused 5)
 
--- what an answer says of a raw name: the decoded part from the place on that it gives
-abbrev pub partAfter : List ℕ → NameForm → Option (List ℕ)
-partAfter raw (F.After at k) = some (stream raw at k)
-partAfter raw F.Bad = none
+-- What an answer says of a raw name. Document 01 leaves free by which place the part is told; the decoded text from there on is the
+-- part.
+abbrev pub partAfter : List ℕ → NameForm → Answer (List ℕ)
+partAfter raw (F.After at k) = accepted (stream raw at k)
+partAfter raw F.Bad = refused 5
 
 -- ---- for the code: bytes of a namespace up to the first colon, and what stands past that
-unfoldable pub pastSpace : List ℕ → Option (List ℕ)
-pastSpace [] = none
-pastSpace (b ∷ l) = cond (eqb b 0x3A) (some l) (cond (spaceByte b) (pastSpace l) none)
+unfoldable pub pastSpace : List ℕ → Answer (List ℕ)
+pastSpace [] = refused 5
+pastSpace (b ∷ l) = cond (eqb b 0x3A) (accepted l) (cond (spaceByte b) (pastSpace l) (refused 5))

@@ -3,9 +3,9 @@ ghost use mathlib.Core.Bool.{true};
 ghost use Prim.Native.Nat.{_+_, _≤_};
 ghost use lib.ListN.{length};
 ghost use lib.Dec.{leb};
-ghost use Rattle.decode.specs.Decode.{stream, streamed};
+ghost use Rattle.decode.specs.Decode.{nextByte, stream};
 ghost use Rattle.texts.specs.Texts.{valueText};
-ghost use Rattle.texts.specs.Datetimes.{pairOf, pairThen, dateOf, clockOf, isEmpty, startsDigit, zoned, fractionOf, leap, lastDay, dateOk, clockOk, datetimeOf};
+ghost use Rattle.texts.specs.Datetimes.{pairOf, pairThen, dateOf, clockOf, isEmpty, startsDigit, zoned, fractionOf, leap, lastDay, dateOk, clockOk, datetimeAnswer};
 ghost use Rattle.texts.specs.Datetimes.{pairSays, dateSays, clockSays, fractionSays, datetimeSays};
 ghost use Rattle.texts.specs.Datetimes.{hasPair, hasPairThen, pairAt, hasDate, hasClock};
 use crate::Clock;
@@ -23,7 +23,7 @@ use tokens::peek;
 
 // The next decoded byte, quickly where it stands for itself. The bytes of a datetime lie between these two.
 fn next(s: &[u8], at: usize, k: usize) -> Stream
-    ensures { λ r. ⌜ streamed (now (s .entry)) r ≡ stream (now (s .entry)) at k ⌝ }
+    ensures { λ r. ⌜ r ≡ nextByte (now (s .entry)) at k ⌝ }
 {
     if k == 0 {
         let b = peek(s, at);
@@ -379,7 +379,7 @@ pub(crate) fn is_clock(last: bool, c: Clock) -> bool
 
 // The parts of a datetime.
 pub fn datetime(part: &[u8]) -> Datetime
-    ensures { λ r. ⌜ datetimeSays (now (part .entry)) r ≡ datetimeOf (valueText (now (part .entry))) ⌝ }
+    ensures { λ r. ⌜ datetimeSays (now (part .entry)) r ≡ datetimeAnswer (valueText (now (part .entry))) ⌝ }
 {
     let p = date(part, 1);
     let DateRead::At(d, a, b) = p else {

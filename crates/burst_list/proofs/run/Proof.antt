@@ -3,6 +3,7 @@ use lib.ListN.{length, getD, drop}
 use Prim.Native.Nat.{ℕ, _≤_, _<_, _-_, _+_, _*_}
 use mathlib.Core.Path.{_≡_, refl, sym, ap, _∙_}
 use lib.Seq.{length-take-le}
+use Rattle.first_line.specs.FirstLine.{lineSays}
 use Rattle.first_line.proofs.Laws.{line-inside}
 use borrow.Author.Needs.{needs}
 use Rattle.burst_list.proofs.run.Statement.{statement}
@@ -29,10 +30,10 @@ returns : tie.Need-returns
 returns c = search needs
 
 sub-list : tie.Need-sub-list
-sub-list c = let h = line-inside _ _ _ (sym (c .before .before .before .first-line .ensures) ∙ (c .before .f .given .1)) in omega arith
+sub-list c = let h = line-inside _ _ _ (sym (c .before .before .before .first-line .ensures) ∙ ap lineSays (c .before .f .given .1)) in omega arith
 
 part-list-start : tie.Need-part-list-start
-part-list-start c = let h = line-inside _ _ _ (sym (c .before .before .before .first-line .ensures) ∙ (c .before .f .given .1)) in omega arith
+part-list-start c = let h = line-inside _ _ _ (sym (c .before .before .before .first-line .ensures) ∙ ap lineSays (c .before .f .given .1)) in omega arith
 
 part-list-end : tie.Need-part-list-end
 part-list-end c = search needs

@@ -17,13 +17,13 @@ enum-told-3 : tie.Need-enum-told-3
 enum-told-3 c = search needs
 
 returns : tie.Need-returns
-returns c = ap refusalOf (sym (c .enum-told .given .1) ∙ (c .before .before .judge .ensures))
+returns c = ap refusalOf (sym (c .enum-told .given .1)) ∙ c .before .before .judge .ensures
 
 returns-2 : tie.Need-returns-2
-returns-2 c = ap refusalOf (sym (c .enum-told2 .given .1) ∙ (c .before .before .judge .ensures))
+returns-2 c = ap refusalOf (sym (c .enum-told2 .given .1)) ∙ c .before .before .judge .ensures
 
 returns-3 : tie.Need-returns-3
-returns-3 c = ap refusalOf (sym (c .enum-told3 .given .1) ∙ (c .before .before .judge .ensures))
+returns-3 c = ap refusalOf (sym (c .enum-told3 .given .1)) ∙ c .before .before .judge .ensures
 
 pub json-judge-spec : {M : Type 1} → statement M
 json-judge-spec =

@@ -1,4 +1,5 @@
 use Rattle.labels.proofs.TextLaws.{part-over, part-rest, part-in}
+use native.Mathlib.Omega.{arith}
 use borrow.Author.Needs.{needs}
 use Rattle.labels.proofs.text_part.Statement.{statement}
 use Rattle.labels.proofs.text_part.Tie as tie
@@ -13,7 +14,7 @@ part-result-end : tie.Need-part-result-end
 part-result-end c = search needs
 
 returns : tie.Need-returns
-returns c = search part-over
+returns c = (search part-over, (search needs, omega arith))
 
 sub-if2 : tie.Need-sub-if2
 sub-if2 c = search needs
@@ -28,7 +29,7 @@ part-result-end-2 : tie.Need-part-result-end-2
 part-result-end-2 c = search needs
 
 returns-2 : tie.Need-returns-2
-returns-2 c = search part-rest
+returns-2 c = (search part-rest, (search needs, omega arith))
 
 add-e : tie.Need-add-e
 add-e c = search needs
@@ -43,7 +44,7 @@ part-result-end-3 : tie.Need-part-result-end-3
 part-result-end-3 c = search needs
 
 returns-3 : tie.Need-returns-3
-returns-3 c = search part-in
+returns-3 c = (search part-in, (search needs, omega arith))
 
 pub text-part-spec : {M : Type 1} → statement M
 text-part-spec =

@@ -27,13 +27,13 @@ enum-told-3 : tie.Need-enum-told-3
 enum-told-3 c = search needs
 
 returns-4 : tie.Need-returns-4
-returns-4 c = ap refusalOf (sym (c .enum-told .given .1)) ∙ text-judged (c .before .before .before .before .before .before .before .args .s .now) (c .before .before .before .before .before .before .before .args .d) (c .before .before .before .before .before .if1 .left) (c .before .before .before .before .if2 .left) (c .before .before .before .if3 .left) _ (c .before .before .judge .ensures)
+returns-4 c = ap refusalOf (sym (c .enum-told .given .1)) ∙ text-judged (c .before .before .before .before .before .before .before .args .s .now) (c .before .before .before .before .before .before .before .args .d) (c .before .before .before .before .before .if1 .left) (c .before .before .before .before .if2 .left) (c .before .before .before .if3 .left) (c .before .before .judge .result) (c .before .before .judge .ensures)
 
 returns-5 : tie.Need-returns-5
-returns-5 c = ap refusalOf (sym (c .enum-told2 .given .1)) ∙ text-judged (c .before .before .before .before .before .before .before .args .s .now) (c .before .before .before .before .before .before .before .args .d) (c .before .before .before .before .before .if1 .left) (c .before .before .before .before .if2 .left) (c .before .before .before .if3 .left) _ (c .before .before .judge .ensures)
+returns-5 c = ap refusalOf (sym (c .enum-told2 .given .1)) ∙ text-judged (c .before .before .before .before .before .before .before .args .s .now) (c .before .before .before .before .before .before .before .args .d) (c .before .before .before .before .before .if1 .left) (c .before .before .before .before .if2 .left) (c .before .before .before .if3 .left) (c .before .before .judge .result) (c .before .before .judge .ensures)
 
 returns-6 : tie.Need-returns-6
-returns-6 c = ap refusalOf (sym (c .enum-told3 .given .1)) ∙ text-judged (c .before .before .before .before .before .before .before .args .s .now) (c .before .before .before .before .before .before .before .args .d) (c .before .before .before .before .before .if1 .left) (c .before .before .before .before .if2 .left) (c .before .before .before .if3 .left) _ (c .before .before .judge .ensures)
+returns-6 c = ap refusalOf (sym (c .enum-told3 .given .1)) ∙ text-judged (c .before .before .before .before .before .before .before .args .s .now) (c .before .before .before .before .before .before .before .args .d) (c .before .before .before .before .before .if1 .left) (c .before .before .before .before .if2 .left) (c .before .before .before .if3 .left) (c .before .before .judge .result) (c .before .before .judge .ensures)
 
 pub text-refusal-spec : {M : Type 1} → statement M
 text-refusal-spec =

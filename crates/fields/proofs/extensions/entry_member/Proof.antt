@@ -20,10 +20,10 @@ has-type-requires : tie.Need-has-type-requires
 has-type-requires c κs = search needs
 
 returns : tie.Need-returns
-returns c = class-name _ _ _ _ (c .before .before .before .before .before .before .part-of .ensures) (c .before .before .before .before .before .part-of2 .ensures) (sym (c .before .before .before .text-is .ensures) ∙ (c .before .before .if1 .taken)) (sym (c .before .has-type .ensures) ∙ (c .if2 .taken))
+returns c = class-name _ _ _ _ (c .before .before .before .before .before .before .part-of .ensures .0) (c .before .before .before .before .before .part-of2 .ensures .0) (sym (c .before .before .before .text-is .ensures) ∙ (c .before .before .if1 .taken)) (sym (c .before .has-type .ensures) ∙ (c .if2 .taken))
 
 returns-2 : tie.Need-returns-2
-returns-2 c = class-name-not _ _ _ _ (c .before .before .before .before .before .before .part-of .ensures) (c .before .before .before .before .before .part-of2 .ensures) (sym (c .before .before .before .text-is .ensures) ∙ (c .before .before .if1 .taken)) (sym (c .before .has-type .ensures) ∙ (c .if2 .left))
+returns-2 c = class-name-not _ _ _ _ (c .before .before .before .before .before .before .part-of .ensures .0) (c .before .before .before .before .before .part-of2 .ensures .0) (sym (c .before .before .before .text-is .ensures) ∙ (c .before .before .if1 .taken)) (sym (c .before .has-type .ensures) ∙ (c .if2 .left))
 
 slice-aggregate-text-is-2 : tie.Need-slice-aggregate-text-is-2
 slice-aggregate-text-is-2 c = search needs
@@ -35,10 +35,10 @@ has-type-requires-2 : tie.Need-has-type-requires-2
 has-type-requires-2 c κs = search needs
 
 returns-3 : tie.Need-returns-3
-returns-3 c = class-version _ _ _ _ (c .before .before .before .before .before .before .before .before .before .part-of .ensures) (c .before .before .before .before .before .before .before .before .part-of2 .ensures) (sym (c .before .before .before .before .before .before .text-is .ensures) ∙ (c .before .before .before .before .before .if1 .left)) (sym (c .before .before .before .text-is2 .ensures) ∙ (c .before .before .if3 .taken)) (sym (c .before .has-type2 .ensures) ∙ (c .if4 .taken))
+returns-3 c = class-version _ _ _ _ (c .before .before .before .before .before .before .before .before .before .part-of .ensures .0) (c .before .before .before .before .before .before .before .before .part-of2 .ensures .0) (sym (c .before .before .before .before .before .before .text-is .ensures) ∙ (c .before .before .before .before .before .if1 .left)) (sym (c .before .before .before .text-is2 .ensures) ∙ (c .before .before .if3 .taken)) (sym (c .before .has-type2 .ensures) ∙ (c .if4 .taken))
 
 returns-4 : tie.Need-returns-4
-returns-4 c = class-version-not _ _ _ _ (c .before .before .before .before .before .before .before .before .before .part-of .ensures) (c .before .before .before .before .before .before .before .before .part-of2 .ensures) (sym (c .before .before .before .before .before .before .text-is .ensures) ∙ (c .before .before .before .before .before .if1 .left)) (sym (c .before .before .before .text-is2 .ensures) ∙ (c .before .before .if3 .taken)) (sym (c .before .has-type2 .ensures) ∙ (c .if4 .left))
+returns-4 c = class-version-not _ _ _ _ (c .before .before .before .before .before .before .before .before .before .part-of .ensures .0) (c .before .before .before .before .before .before .before .before .part-of2 .ensures .0) (sym (c .before .before .before .before .before .before .text-is .ensures) ∙ (c .before .before .before .before .before .if1 .left)) (sym (c .before .before .before .text-is2 .ensures) ∙ (c .before .before .if3 .taken)) (sym (c .before .has-type2 .ensures) ∙ (c .if4 .left))
 
 slice-aggregate-text-is-3 : tie.Need-slice-aggregate-text-is-3
 slice-aggregate-text-is-3 c = search needs
@@ -53,16 +53,16 @@ is-true-requires : tie.Need-is-true-requires
 is-true-requires c κs = search needs
 
 returns-5 : tie.Need-returns-5
-returns-5 c = class-true _ _ _ _ (c .before .before .before .before .before .before .before .before .before .before .before .before .before .before .part-of .ensures) (c .before .before .before .before .before .before .before .before .before .before .before .before .before .part-of2 .ensures) (sym (c .before .before .before .before .before .before .before .before .before .before .before .text-is .ensures) ∙ (c .before .before .before .before .before .before .before .before .before .before .if1 .left)) (sym (c .before .before .before .before .before .before .before .before .text-is2 .ensures) ∙ (c .before .before .before .before .before .before .before .if3 .left)) (sym (c .before .before .before .before .before .text-is3 .ensures) ∙ (c .before .before .before .before .if5 .taken)) (sym (c .before .before .before .has-type3 .ensures) ∙ (c .before .before .if6 .taken)) (sym (c .before .is-true .ensures) ∙ (c .if7 .taken))
+returns-5 c = class-true _ _ _ _ (c .before .before .before .before .before .before .before .before .before .before .before .before .before .before .part-of .ensures .0) (c .before .before .before .before .before .before .before .before .before .before .before .before .before .part-of2 .ensures .0) (sym (c .before .before .before .before .before .before .before .before .before .before .before .text-is .ensures) ∙ (c .before .before .before .before .before .before .before .before .before .before .if1 .left)) (sym (c .before .before .before .before .before .before .before .before .text-is2 .ensures) ∙ (c .before .before .before .before .before .before .before .if3 .left)) (sym (c .before .before .before .before .before .text-is3 .ensures) ∙ (c .before .before .before .before .if5 .taken)) (sym (c .before .before .before .has-type3 .ensures) ∙ (c .before .before .if6 .taken)) (sym (c .before .is-true .ensures) ∙ (c .if7 .taken))
 
 returns-6 : tie.Need-returns-6
-returns-6 c = class-false _ _ _ _ (c .before .before .before .before .before .before .before .before .before .before .before .before .before .before .part-of .ensures) (c .before .before .before .before .before .before .before .before .before .before .before .before .before .part-of2 .ensures) (sym (c .before .before .before .before .before .before .before .before .before .before .before .text-is .ensures) ∙ (c .before .before .before .before .before .before .before .before .before .before .if1 .left)) (sym (c .before .before .before .before .before .before .before .before .text-is2 .ensures) ∙ (c .before .before .before .before .before .before .before .if3 .left)) (sym (c .before .before .before .before .before .text-is3 .ensures) ∙ (c .before .before .before .before .if5 .taken)) (sym (c .before .before .before .has-type3 .ensures) ∙ (c .before .before .if6 .taken)) (sym (c .before .is-true .ensures) ∙ (c .if7 .left))
+returns-6 c = class-false _ _ _ _ (c .before .before .before .before .before .before .before .before .before .before .before .before .before .before .part-of .ensures .0) (c .before .before .before .before .before .before .before .before .before .before .before .before .before .part-of2 .ensures .0) (sym (c .before .before .before .before .before .before .before .before .before .before .before .text-is .ensures) ∙ (c .before .before .before .before .before .before .before .before .before .before .if1 .left)) (sym (c .before .before .before .before .before .before .before .before .text-is2 .ensures) ∙ (c .before .before .before .before .before .before .before .if3 .left)) (sym (c .before .before .before .before .before .text-is3 .ensures) ∙ (c .before .before .before .before .if5 .taken)) (sym (c .before .before .before .has-type3 .ensures) ∙ (c .before .before .if6 .taken)) (sym (c .before .is-true .ensures) ∙ (c .if7 .left))
 
 returns-7 : tie.Need-returns-7
-returns-7 c = class-optional-not _ _ _ _ (c .before .before .before .before .before .before .before .before .before .before .before .before .part-of .ensures) (c .before .before .before .before .before .before .before .before .before .before .before .part-of2 .ensures) (sym (c .before .before .before .before .before .before .before .before .before .text-is .ensures) ∙ (c .before .before .before .before .before .before .before .before .if1 .left)) (sym (c .before .before .before .before .before .before .text-is2 .ensures) ∙ (c .before .before .before .before .before .if3 .left)) (sym (c .before .before .before .text-is3 .ensures) ∙ (c .before .before .if5 .taken)) (sym (c .before .has-type3 .ensures) ∙ (c .if6 .left))
+returns-7 c = class-optional-not _ _ _ _ (c .before .before .before .before .before .before .before .before .before .before .before .before .part-of .ensures .0) (c .before .before .before .before .before .before .before .before .before .before .before .part-of2 .ensures .0) (sym (c .before .before .before .before .before .before .before .before .before .text-is .ensures) ∙ (c .before .before .before .before .before .before .before .before .if1 .left)) (sym (c .before .before .before .before .before .before .text-is2 .ensures) ∙ (c .before .before .before .before .before .if3 .left)) (sym (c .before .before .before .text-is3 .ensures) ∙ (c .before .before .if5 .taken)) (sym (c .before .has-type3 .ensures) ∙ (c .if6 .left))
 
 returns-8 : tie.Need-returns-8
-returns-8 c = class-other _ _ _ _ (c .before .before .before .before .before .before .before .before .before .before .part-of .ensures) (c .before .before .before .before .before .before .before .before .before .part-of2 .ensures) (sym (c .before .before .before .before .before .before .before .text-is .ensures) ∙ (c .before .before .before .before .before .before .if1 .left)) (sym (c .before .before .before .before .text-is2 .ensures) ∙ (c .before .before .before .if3 .left)) (sym (c .before .text-is3 .ensures) ∙ (c .if5 .left))
+returns-8 c = class-other _ _ _ _ (c .before .before .before .before .before .before .before .before .before .before .part-of .ensures .0) (c .before .before .before .before .before .before .before .before .before .part-of2 .ensures .0) (sym (c .before .before .before .before .before .before .before .text-is .ensures) ∙ (c .before .before .before .before .before .before .if1 .left)) (sym (c .before .before .before .before .text-is2 .ensures) ∙ (c .before .before .before .if3 .left)) (sym (c .before .text-is3 .ensures) ∙ (c .if5 .left))
 
 pub entry-member-spec : {M : Type 1} → statement M
 entry-member-spec =

@@ -1,5 +1,5 @@
 use mathlib.Core.Path.{sym, _∙_}
-use Rattle.fields.proofs.ExtensionLaws.{entry-none, entry-is}
+use Rattle.fields.proofs.ExtensionLaws.{entry-none, entry-is, entry-refusal}
 use borrow.Author.Needs.{needs}
 use Rattle.fields.proofs.extensions.extension.Statement.{statement}
 use Rattle.fields.proofs.extensions.extension.Tie as tie
@@ -14,10 +14,10 @@ judge-requires : tie.Need-judge-requires
 judge-requires c κs = search needs
 
 returns : tie.Need-returns
-returns c = entry-is _ _ _ (sym (c .before .before .before .has-type .ensures) ∙ (c .before .before .if1 .taken)) (c .before .tally .ensures) (c .judge .ensures)
+returns c = entry-refusal _ _ (entry-is _ _ _ (sym (c .before .before .before .has-type .ensures) ∙ (c .before .before .if1 .taken)) (c .before .tally .ensures) (c .judge .ensures))
 
 returns-2 : tie.Need-returns-2
-returns-2 c = entry-none _ (sym (c .before .has-type .ensures) ∙ (c .if1 .left))
+returns-2 c = entry-refusal _ _ (entry-none _ (sym (c .before .has-type .ensures) ∙ (c .if1 .left)))
 
 pub extension-spec : {M : Type 1} → statement M
 extension-spec =

@@ -1,5 +1,6 @@
 use mathlib.Core.Path.{sym, ap, _∙_}
 use Rattle.fields.specs.Values.{isValue}
+use Rattle.fields.proofs.ValueLaws.{uint-of}
 use borrow.Author.Needs.{needs}
 use Rattle.fields.proofs.value.is_uint.Statement.{statement}
 use Rattle.fields.proofs.value.is_uint.Tie as tie
@@ -14,10 +15,10 @@ enum-told-2 : tie.Need-enum-told-2
 enum-told-2 c = search needs
 
 returns : tie.Need-returns
-returns c = sym (ap isValue (sym (c .before .before .uint .ensures) ∙ (c .enum-told .given .1)))
+returns c = sym (ap isValue (sym (uint-of _ _ (c .before .before .uint .ensures)) ∙ (c .enum-told .given .1)))
 
 returns-2 : tie.Need-returns-2
-returns-2 c = sym (ap isValue (sym (c .before .before .uint .ensures) ∙ (c .enum-told2 .given .1)))
+returns-2 c = sym (ap isValue (sym (uint-of _ _ (c .before .before .uint .ensures)) ∙ (c .enum-told2 .given .1)))
 
 pub is-uint-spec : {M : Type 1} → statement M
 is-uint-spec = tie.close (tie.spec uint-requires enum-told enum-told-2 returns returns-2)

@@ -33,7 +33,7 @@ same-length : tie.Need-same-length Inv-loop μ-loop
 same-length c = writes-long (c .before .before .before .loop .inv)
 
 returns : tie.Need-returns Inv-loop μ-loop
-returns c = writes-end (shown-close _ (c .before .before .before .loop .inv) (streamed-end _ _ _ (c .before .before .next-byte .ensures) (c .enum-told .given .1)))
+returns c = writes-end (shown-close _ (c .before .before .before .loop .inv) (streamed-end _ _ _ _ (c .before .before .next-byte .ensures) (c .enum-told .given .1)))
 
 sub-put-byte : tie.Need-sub-put-byte Inv-loop μ-loop
 sub-put-byte c = next-from (c .before .before .before .before .loop .inv)
@@ -45,18 +45,18 @@ part-put-byte-end : tie.Need-part-put-byte-end Inv-loop μ-loop
 part-put-byte-end c = search needs
 
 put-byte-requires : tie.Need-put-byte-requires Inv-loop μ-loop
-put-byte-requires c κs = next-room (shown-on _ (c .before .before .before .before .before .loop .inv) (streamed-next _ _ _ (c .before .before .before .before .next-byte .ensures) _ _ _ (c .before .before .g .given .1)))
+put-byte-requires c κs = next-room (shown-on _ (c .before .before .before .before .before .loop .inv) (streamed-next _ _ _ _ (c .before .before .before .before .next-byte .ensures) _ _ _ (c .before .before .g .given .1)))
 
 add-n : tie.Need-add-n Inv-loop μ-loop
 add-n c =
     let g = (c .before .before .before .before .before .before .before .before .before .before .before .good) in
-    omega (arith, next-sum (shown-on _ (c .before .before .before .before .before .before .before .before .loop .inv) (streamed-next _ _ _ (c .before .before .before .before .before .before .before .next-byte .ensures) _ _ _ (c .before .before .before .before .before .g .given .1))) (c .before .before .put-byte .ensures))
+    omega (arith, next-sum (shown-on _ (c .before .before .before .before .before .before .before .before .loop .inv) (streamed-next _ _ _ _ (c .before .before .before .before .before .before .before .next-byte .ensures) _ _ _ (c .before .before .before .before .before .g .given .1))) (c .before .before .put-byte .ensures))
 
 loop-less : tie.Need-loop-less Inv-loop μ-loop
-loop-less c = shorter _ _ _ (streamed-next _ _ _ (c .before .before .before .before .before .before .before .next-byte .ensures) _ _ _ (c .before .before .before .before .before .g .given .1))
+loop-less c = shorter _ _ _ (streamed-next _ _ _ _ (c .before .before .before .before .before .before .before .next-byte .ensures) _ _ _ (c .before .before .before .before .before .g .given .1))
 
 loop-again : tie.Need-loop-again Inv-loop μ-loop
-loop-again c = writes-next (shown-on _ (c .before .before .before .before .before .before .before .before .loop .inv) (streamed-next _ _ _ (c .before .before .before .before .before .before .before .next-byte .ensures) _ _ _ (c .before .before .before .before .before .g .given .1))) (c .before .before .put-byte .ensures)
+loop-again c = writes-next (shown-on _ (c .before .before .before .before .before .before .before .before .loop .inv) (streamed-next _ _ _ _ (c .before .before .before .before .before .before .before .next-byte .ensures) _ _ _ (c .before .before .before .before .before .g .given .1))) (c .before .before .put-byte .ensures)
 
 pub put-shown-spec : {M : Type 1} → statement M
 put-shown-spec =

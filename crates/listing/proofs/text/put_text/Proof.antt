@@ -19,13 +19,13 @@ text-part-requires : tie.Need-text-part-requires
 text-part-requires c κs = search needs
 
 put-quoted-requires : tie.Need-put-quoted-requires
-put-quoted-requires c κs = quoted-room _ _ _ _ (c .before .before .before .is-absent .ensures) (c .before .before .if1 .left) 0 _ (c .text-part .ensures) ((c .before .before .before .before .before .before .args .out) .now) (c .before .before .before .before .before .before .pre)
+put-quoted-requires c κs = quoted-room _ _ _ _ (c .before .before .before .is-absent .ensures) (c .before .before .if1 .left) 0 _ (c .text-part .ensures .0) ((c .before .before .before .before .before .before .args .out) .now) (c .before .before .before .before .before .before .pre)
 
 same-length-2 : tie.Need-same-length-2
 same-length-2 c = search needs
 
 returns-2 : tie.Need-returns-2
-returns-2 c = (quoted-same _ _ _ _ (c .before .before .before .before .before .before .is-absent .ensures) (c .before .before .before .before .before .if1 .left) _ _ (c .before .before .before .text-part .ensures) ((c .before .before .put-quoted .ensures) .0), quoted-put _ _ _ _ (c .before .before .before .before .before .before .is-absent .ensures) (c .before .before .before .before .before .if1 .left) 0 _ (c .before .before .before .text-part .ensures) _ _ ((c .before .before .put-quoted .ensures) .1))
+returns-2 c = (quoted-same _ _ _ _ (c .before .before .before .before .before .before .is-absent .ensures) (c .before .before .before .before .before .if1 .left) _ _ (c .before .before .before .text-part .ensures .0) ((c .before .before .put-quoted .ensures) .0), quoted-put _ _ _ _ (c .before .before .before .before .before .before .is-absent .ensures) (c .before .before .before .before .before .if1 .left) 0 _ (c .before .before .before .text-part .ensures .0) _ _ ((c .before .before .put-quoted .ensures) .1))
 
 pub put-text-spec : {M : Type 1} → statement M
 put-text-spec =

@@ -29,19 +29,19 @@ enum-told : tie.Need-enum-told Inv-loop μ-loop
 enum-told c = search needs
 
 returns : tie.Need-returns Inv-loop μ-loop
-returns c = text-end ((c .before .before .before .before .before .args .raw) .now) _ _ (c .before .before .before .loop .inv) (streamed-end _ _ _ (c .before .before .next-byte .ensures) (c .enum-told .given .1))
+returns c = text-end ((c .before .before .before .before .before .args .raw) .now) _ _ (c .before .before .before .loop .inv) (streamed-end _ _ _ _ (c .before .before .next-byte .ensures) (c .enum-told .given .1))
 
 byte-length-requires : tie.Need-byte-length-requires Inv-loop μ-loop
 byte-length-requires c κs = search needs
 
 add-n : tie.Need-add-n Inv-loop μ-loop
-add-n c = text-fits _ _ _ (c .before .before .before .before .before .loop .inv) _ _ _ (streamed-next _ _ _ (c .before .before .before .before .next-byte .ensures) _ _ _ (c .before .before .g .given .1)) (c .byte-length .ensures) (c .before .before .before .before .before .before .before .pre)
+add-n c = text-fits _ _ _ (c .before .before .before .before .before .loop .inv) _ _ _ (streamed-next _ _ _ _ (c .before .before .before .before .next-byte .ensures) _ _ _ (c .before .before .g .given .1)) (c .byte-length .ensures) (c .before .before .before .before .before .before .before .pre)
 
 loop-less : tie.Need-loop-less Inv-loop μ-loop
-loop-less c = shorter _ _ _ (streamed-next _ _ _ (c .before .before .before .before .next-byte .ensures) _ _ _ (c .before .before .g .given .1))
+loop-less c = shorter _ _ _ (streamed-next _ _ _ _ (c .before .before .before .before .next-byte .ensures) _ _ _ (c .before .before .g .given .1))
 
 loop-again : tie.Need-loop-again Inv-loop μ-loop
-loop-again c = text-on _ _ _ (c .before .before .before .before .before .loop .inv) _ _ _ (streamed-next _ _ _ (c .before .before .before .before .next-byte .ensures) _ _ _ (c .before .before .g .given .1)) (c .byte-length .ensures)
+loop-again c = text-on _ _ _ (c .before .before .before .before .before .loop .inv) _ _ _ (streamed-next _ _ _ _ (c .before .before .before .before .next-byte .ensures) _ _ _ (c .before .before .g .given .1)) (c .byte-length .ensures)
 
 pub quoted-length-spec : {M : Type 1} → statement M
 quoted-length-spec =

@@ -1,3 +1,4 @@
+use Rattle.fields.proofs.ExtensionLaws.{extension-is}
 use borrow.Author.Needs.{needs}
 use native.Mathlib.Omega.{arith}
 use lib.ListN.{length}
@@ -57,7 +58,7 @@ loop-less : tie.Need-loop-less Inv-loop μ-loop
 loop-less c = let o = entry-past (c .before .before .before .before .before .before .before .before .before .before .before .before .before .args .s .now) (c .before .before .before .before .before .before .before .before .loop .i) (c .before .before .before .before .before .before .before .before .loop .low) _ _ (sym (c .before .before .before .before .before .before .before .next-element .ensures) ∙ (c .before .before .before .before .before .g .given .1)) in omega arith
 
 loop-again : tie.Need-loop-again Inv-loop μ-loop
-loop-again c = entries-on (c .before .before .before .before .before .before .before .before .before .before .before .before .before .args .s .now) (c .before .before .before .before .before .before .before .before .loop .i) (c .before .before .before .before .before .before .before .before .loop .low) _ _ (sym (c .before .before .before .before .before .before .before .next-element .ensures) ∙ (c .before .before .before .before .before .g .given .1)) _ _ _ _ (c .before .before .before .part-of .ensures) (c .before .before .extension .ensures) (c .before .entry-low .ensures) (c .least .ensures) ∙ (c .before .before .before .before .before .before .before .before .loop .inv)
+loop-again c = entries-on (c .before .before .before .before .before .before .before .before .before .before .before .before .before .args .s .now) (c .before .before .before .before .before .before .before .before .loop .i) (c .before .before .before .before .before .before .before .before .loop .low) _ _ (sym (c .before .before .before .before .before .before .before .next-element .ensures) ∙ (c .before .before .before .before .before .g .given .1)) _ _ _ _ (c .before .before .before .part-of .ensures .0) (extension-is _ (c .before .before .extension .result) (c .before .before .extension .ensures)) (c .before .entry-low .ensures) (c .least .ensures) ∙ (c .before .before .before .before .before .before .before .before .loop .inv)
 
 pub entries-low-spec : {M : Type 1} → statement M
 entries-low-spec =

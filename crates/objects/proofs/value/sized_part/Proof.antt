@@ -8,7 +8,7 @@ part-of-requires : tie.Need-part-of-requires
 part-of-requires c κs = search needs
 
 returns : tie.Need-returns
-returns c = (c .part-of .ensures) ∙ part-past (c .before .before .before .args .s .now) (c .before .before .before .args .place) (c .before .before .before .args .n) (c .before .if1 .taken)
+returns c = (c .part-of .ensures .0) ∙ part-past (c .before .before .before .args .s .now) (c .before .before .before .args .place) (c .before .before .before .args .n) (c .before .if1 .taken)
 
 sub-if2 : tie.Need-sub-if2
 sub-if2 c = search needs
@@ -17,7 +17,7 @@ part-of-requires-2 : tie.Need-part-of-requires-2
 part-of-requires-2 c κs = search needs
 
 returns-2 : tie.Need-returns-2
-returns-2 c = (c .part-of2 .ensures) ∙ part-ends (c .before .before .before .before .args .s .now) (c .before .before .before .before .args .place) (c .before .before .before .before .args .n) (c .before .if2 .taken) (c .before .before .if1 .left)
+returns-2 c = (c .part-of2 .ensures .0) ∙ part-ends (c .before .before .before .before .args .s .now) (c .before .before .before .before .args .place) (c .before .before .before .before .args .n) (c .before .if2 .taken) (c .before .before .if1 .left)
 
 add-part-of : tie.Need-add-part-of
 add-part-of c = search needs

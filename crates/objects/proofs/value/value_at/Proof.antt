@@ -18,7 +18,7 @@ part-of-requires : tie.Need-part-of-requires
 part-of-requires c κs = search needs
 
 returns : tie.Need-returns
-returns c = (c .part-of .ensures) ∙ ap (λ (e : ℕ). partOf (c .before .before .before .args .s .now) (c .before .before .before .args .place) e) (c .before .skip-value .ensures)
+returns c = (c .part-of .ensures .0) ∙ ap (λ (e : ℕ). partOf (c .before .before .before .args .s .now) (c .before .before .before .args .place) e) (c .before .skip-value .ensures)
 
 pub value-at-spec : {M : Type 1} → statement M
 value-at-spec = tie.close (tie.spec skip-value-requires part-of-requires returns)

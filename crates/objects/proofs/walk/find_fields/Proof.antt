@@ -55,28 +55,28 @@ field-number-requires : tie.Need-field-number-requires Inv-loop μ-loop
 field-number-requires c κs = search needs
 
 member-sized-requires : tie.Need-member-sized-requires Inv-loop μ-loop
-member-sized-requires c κs = (number-is (c .before .before .before .before .before .before .before .before .before .before .before .before .args .s .now) (coreOf (c .before .before .before .before .before .before .before .before .before .before .before .before .args .kind)) _ (c .before .before .before .before .before .before .loop .j) (c .before .before .before .before .before .before .loop .low) (c .before .before .before .before .before .before .loop .places) (c .before .before .before .before .before .before .loop .sizes) (c .before .before .before .before .before .before .loop .inv) _ _ (sym (c .before .before .before .before .before .next-member .ensures) ∙ (c .before .before .before .g .given) .1) _ _ (c .before .part-of .ensures) (c .field-number .ensures), omega (arith, (c .before .before .before .before .before .before .before .before .before .before .before .before .pre .0)))
+member-sized-requires c κs = (number-is (c .before .before .before .before .before .before .before .before .before .before .before .before .args .s .now) (coreOf (c .before .before .before .before .before .before .before .before .before .before .before .before .args .kind)) _ (c .before .before .before .before .before .before .loop .j) (c .before .before .before .before .before .before .loop .low) (c .before .before .before .before .before .before .loop .places) (c .before .before .before .before .before .before .loop .sizes) (c .before .before .before .before .before .before .loop .inv) _ _ (sym (c .before .before .before .before .before .next-member .ensures) ∙ (c .before .before .before .g .given) .1) _ _ (c .before .part-of .ensures .0) (c .field-number .ensures), omega (arith, (c .before .before .before .before .before .before .before .before .before .before .before .before .pre .0)))
 
 least-requires : tie.Need-least-requires Inv-loop μ-loop
 least-requires c κs = search needs
 
 mul-places : tie.Need-mul-places Inv-loop μ-loop
-mul-places c = omega (arith, (c .before .before .before .before .before .before .before .before .loop .inv .slots), core-most (c .before .before .before .before .before .before .before .before .before .before .before .before .before .before .args .kind), number-inside (c .before .before .before .before .before .before .before .before .before .before .before .before .before .before .args .s .now) (coreOf (c .before .before .before .before .before .before .before .before .before .before .before .before .before .before .args .kind)) _ (c .before .before .before .before .before .before .before .before .loop .j) (c .before .before .before .before .before .before .before .before .loop .low) (c .before .before .before .before .before .before .before .before .loop .places) (c .before .before .before .before .before .before .before .before .loop .sizes) (c .before .before .before .before .before .before .before .before .loop .inv) _ _ (sym (c .before .before .before .before .before .before .before .next-member .ensures) ∙ (c .before .before .before .before .before .g .given) .1) _ _ (c .before .before .before .part-of .ensures) (c .before .before .field-number .ensures))
+mul-places c = omega (arith, (c .before .before .before .before .before .before .before .before .loop .inv .slots), core-most (c .before .before .before .before .before .before .before .before .before .before .before .before .before .before .args .kind), number-inside (c .before .before .before .before .before .before .before .before .before .before .before .before .before .before .args .s .now) (coreOf (c .before .before .before .before .before .before .before .before .before .before .before .before .before .before .args .kind)) _ (c .before .before .before .before .before .before .before .before .loop .j) (c .before .before .before .before .before .before .before .before .loop .low) (c .before .before .before .before .before .before .before .before .loop .places) (c .before .before .before .before .before .before .before .before .loop .sizes) (c .before .before .before .before .before .before .before .before .loop .inv) _ _ (sym (c .before .before .before .before .before .before .before .next-member .ensures) ∙ (c .before .before .before .before .before .g .given) .1) _ _ (c .before .before .before .part-of .ensures .0) (c .before .before .field-number .ensures))
 
 slice-write-places : tie.Need-slice-write-places Inv-loop μ-loop
-slice-write-places c = number-inside (c .before .before .before .before .before .before .before .before .before .before .before .before .before .before .args .s .now) (coreOf (c .before .before .before .before .before .before .before .before .before .before .before .before .before .before .args .kind)) _ (c .before .before .before .before .before .before .before .before .loop .j) (c .before .before .before .before .before .before .before .before .loop .low) (c .before .before .before .before .before .before .before .before .loop .places) (c .before .before .before .before .before .before .before .before .loop .sizes) (c .before .before .before .before .before .before .before .before .loop .inv) _ _ (sym (c .before .before .before .before .before .before .before .next-member .ensures) ∙ (c .before .before .before .before .before .g .given) .1) _ _ (c .before .before .before .part-of .ensures) (c .before .before .field-number .ensures)
+slice-write-places c = number-inside (c .before .before .before .before .before .before .before .before .before .before .before .before .before .before .args .s .now) (coreOf (c .before .before .before .before .before .before .before .before .before .before .before .before .before .before .args .kind)) _ (c .before .before .before .before .before .before .before .before .loop .j) (c .before .before .before .before .before .before .before .before .loop .low) (c .before .before .before .before .before .before .before .before .loop .places) (c .before .before .before .before .before .before .before .before .loop .sizes) (c .before .before .before .before .before .before .before .before .loop .inv) _ _ (sym (c .before .before .before .before .before .before .before .next-member .ensures) ∙ (c .before .before .before .before .before .g .given) .1) _ _ (c .before .before .before .part-of .ensures .0) (c .before .before .field-number .ensures)
 
 mul-sizes : tie.Need-mul-sizes Inv-loop μ-loop
-mul-sizes c = omega (arith, (c .before .before .before .before .before .before .before .before .loop .inv .size-slots), core-most (c .before .before .before .before .before .before .before .before .before .before .before .before .before .before .args .kind), size-inside (c .before .before .before .before .before .before .before .before .before .before .before .before .before .before .args .s .now) (coreOf (c .before .before .before .before .before .before .before .before .before .before .before .before .before .before .args .kind)) _ (c .before .before .before .before .before .before .before .before .loop .j) (c .before .before .before .before .before .before .before .before .loop .low) (c .before .before .before .before .before .before .before .before .loop .places) (c .before .before .before .before .before .before .before .before .loop .sizes) (c .before .before .before .before .before .before .before .before .loop .inv) _ _ (sym (c .before .before .before .before .before .before .before .next-member .ensures) ∙ (c .before .before .before .before .before .g .given) .1) _ _ (c .before .before .before .part-of .ensures) (c .before .before .field-number .ensures))
+mul-sizes c = omega (arith, (c .before .before .before .before .before .before .before .before .loop .inv .size-slots), core-most (c .before .before .before .before .before .before .before .before .before .before .before .before .before .before .args .kind), size-inside (c .before .before .before .before .before .before .before .before .before .before .before .before .before .before .args .s .now) (coreOf (c .before .before .before .before .before .before .before .before .before .before .before .before .before .before .args .kind)) _ (c .before .before .before .before .before .before .before .before .loop .j) (c .before .before .before .before .before .before .before .before .loop .low) (c .before .before .before .before .before .before .before .before .loop .places) (c .before .before .before .before .before .before .before .before .loop .sizes) (c .before .before .before .before .before .before .before .before .loop .inv) _ _ (sym (c .before .before .before .before .before .before .before .next-member .ensures) ∙ (c .before .before .before .before .before .g .given) .1) _ _ (c .before .before .before .part-of .ensures .0) (c .before .before .field-number .ensures))
 
 slice-write-sizes : tie.Need-slice-write-sizes Inv-loop μ-loop
-slice-write-sizes c = size-inside (c .before .before .before .before .before .before .before .before .before .before .before .before .before .before .args .s .now) (coreOf (c .before .before .before .before .before .before .before .before .before .before .before .before .before .before .args .kind)) _ (c .before .before .before .before .before .before .before .before .loop .j) (c .before .before .before .before .before .before .before .before .loop .low) (c .before .before .before .before .before .before .before .before .loop .places) (c .before .before .before .before .before .before .before .before .loop .sizes) (c .before .before .before .before .before .before .before .before .loop .inv) _ _ (sym (c .before .before .before .before .before .before .before .next-member .ensures) ∙ (c .before .before .before .before .before .g .given) .1) _ _ (c .before .before .before .part-of .ensures) (c .before .before .field-number .ensures)
+slice-write-sizes c = size-inside (c .before .before .before .before .before .before .before .before .before .before .before .before .before .before .args .s .now) (coreOf (c .before .before .before .before .before .before .before .before .before .before .before .before .before .before .args .kind)) _ (c .before .before .before .before .before .before .before .before .loop .j) (c .before .before .before .before .before .before .before .before .loop .low) (c .before .before .before .before .before .before .before .before .loop .places) (c .before .before .before .before .before .before .before .before .loop .sizes) (c .before .before .before .before .before .before .before .before .loop .inv) _ _ (sym (c .before .before .before .before .before .before .before .next-member .ensures) ∙ (c .before .before .before .before .before .g .given) .1) _ _ (c .before .before .before .part-of .ensures .0) (c .before .before .field-number .ensures)
 
 loop-less : tie.Need-loop-less Inv-loop μ-loop
 loop-less c = let o = step-past (c .before .before .before .before .before .before .before .before .before .before .before .before .before .before .args .s .now) (coreOf (c .before .before .before .before .before .before .before .before .before .before .before .before .before .before .args .kind)) _ (c .before .before .before .before .before .before .before .before .loop .j) (c .before .before .before .before .before .before .before .before .loop .low) (c .before .before .before .before .before .before .before .before .loop .places) (c .before .before .before .before .before .before .before .before .loop .sizes) (c .before .before .before .before .before .before .before .before .loop .inv) _ _ (sym (c .before .before .before .before .before .before .before .next-member .ensures) ∙ (c .before .before .before .before .before .g .given) .1) in omega arith
 
 loop-again : tie.Need-loop-again Inv-loop μ-loop
-loop-again c = walk-on (c .before .before .before .before .before .before .before .before .before .before .before .before .before .before .args .s .now) (coreOf (c .before .before .before .before .before .before .before .before .before .before .before .before .before .before .args .kind)) _ (c .before .before .before .before .before .before .before .before .loop .j) (c .before .before .before .before .before .before .before .before .loop .low) (c .before .before .before .before .before .before .before .before .loop .places) (c .before .before .before .before .before .before .before .before .loop .sizes) (c .before .before .before .before .before .before .before .before .loop .inv) _ _ (sym (c .before .before .before .before .before .before .before .next-member .ensures) ∙ (c .before .before .before .before .before .g .given) .1) _ _ _ (number-is (c .before .before .before .before .before .before .before .before .before .before .before .before .before .before .args .s .now) (coreOf (c .before .before .before .before .before .before .before .before .before .before .before .before .before .before .args .kind)) _ (c .before .before .before .before .before .before .before .before .loop .j) (c .before .before .before .before .before .before .before .before .loop .low) (c .before .before .before .before .before .before .before .before .loop .places) (c .before .before .before .before .before .before .before .before .loop .sizes) (c .before .before .before .before .before .before .before .before .loop .inv) _ _ (sym (c .before .before .before .before .before .before .before .next-member .ensures) ∙ (c .before .before .before .before .before .g .given) .1) _ _ (c .before .before .before .part-of .ensures) (c .before .before .field-number .ensures)) ((c .least .ensures) ∙ ap (least (c .before .before .before .before .before .before .before .before .loop .low)) ((c .before .member-sized .ensures) .0)) (λ h. (c .before .member-sized .ensures) .1 (omega (arith, h, (c .before .before .before .before .before .before .before .before .before .before .before .before .before .before .pre .0))))
+loop-again c = walk-on (c .before .before .before .before .before .before .before .before .before .before .before .before .before .before .args .s .now) (coreOf (c .before .before .before .before .before .before .before .before .before .before .before .before .before .before .args .kind)) _ (c .before .before .before .before .before .before .before .before .loop .j) (c .before .before .before .before .before .before .before .before .loop .low) (c .before .before .before .before .before .before .before .before .loop .places) (c .before .before .before .before .before .before .before .before .loop .sizes) (c .before .before .before .before .before .before .before .before .loop .inv) _ _ (sym (c .before .before .before .before .before .before .before .next-member .ensures) ∙ (c .before .before .before .before .before .g .given) .1) _ _ _ (number-is (c .before .before .before .before .before .before .before .before .before .before .before .before .before .before .args .s .now) (coreOf (c .before .before .before .before .before .before .before .before .before .before .before .before .before .before .args .kind)) _ (c .before .before .before .before .before .before .before .before .loop .j) (c .before .before .before .before .before .before .before .before .loop .low) (c .before .before .before .before .before .before .before .before .loop .places) (c .before .before .before .before .before .before .before .before .loop .sizes) (c .before .before .before .before .before .before .before .before .loop .inv) _ _ (sym (c .before .before .before .before .before .before .before .next-member .ensures) ∙ (c .before .before .before .before .before .g .given) .1) _ _ (c .before .before .before .part-of .ensures .0) (c .before .before .field-number .ensures)) ((c .least .ensures) ∙ ap (least (c .before .before .before .before .before .before .before .before .loop .low)) ((c .before .member-sized .ensures) .0)) (λ h. (c .before .member-sized .ensures) .1 (omega (arith, h, (c .before .before .before .before .before .before .before .before .before .before .before .before .before .before .pre .0))))
 
 pub find-fields-spec : {M : Type 1} → statement M
 find-fields-spec =

@@ -1,3 +1,4 @@
+use Rattle.fields.proofs.ValueLaws.{uint-of}
 use borrow.Author.Needs.{needs}
 use lib.ListN.{length}
 use Prim.Native.Nat.{ℕ}
@@ -49,10 +50,10 @@ enum-told-2 : tie.Need-enum-told-2
 enum-told-2 c = search needs
 
 returns-3 : tie.Need-returns-3
-returns-3 c = let t = c .before .before .before .before .before .before .args .wanted in let p = c .before .before .before .before .before .before .args .part .now in let e = c .enum-told2 .given .1 in let et = c .before .before .before .enum-told .given .1 in let eu = c .before .before .uint .ensures in (ap (λ x. cond (isValue x) 0 7) (sym e) ∙ uint-low t p et _ eu, ap numberOf (sym e) ∙ uint-size t p et _ eu)
+returns-3 c = let t = c .before .before .before .before .before .before .args .wanted in let p = c .before .before .before .before .before .before .args .part .now in let e = c .enum-told2 .given .1 in let et = c .before .before .before .enum-told .given .1 in let eu = uint-of p (c .before .before .uint .result) (c .before .before .uint .ensures) in (ap (λ x. cond (isValue x) 0 7) (sym e) ∙ uint-low t p et _ eu, ap numberOf (sym e) ∙ uint-size t p et _ eu)
 
 returns-4 : tie.Need-returns-4
-returns-4 c = let t = c .before .before .before .before .before .before .before .args .wanted in let p = c .before .before .before .before .before .before .before .args .part .now in let e = c .before .u .given .1 in let et = c .before .before .before .before .enum-told .given .1 in let eu = c .before .before .before .uint .ensures in (ap (λ x. cond (isValue x) 0 7) (sym e) ∙ uint-low t p et _ eu, ap numberOf (sym e) ∙ uint-size t p et _ eu)
+returns-4 c = let t = c .before .before .before .before .before .before .before .args .wanted in let p = c .before .before .before .before .before .before .before .args .part .now in let e = c .before .u .given .1 in let et = c .before .before .before .before .enum-told .given .1 in let eu = uint-of p (c .before .before .before .uint .result) (c .before .before .before .uint .ensures) in (ap (λ x. cond (isValue x) 0 7) (sym e) ∙ uint-low t p et _ eu, ap numberOf (sym e) ∙ uint-size t p et _ eu)
 
 pub value-sized-spec : {M : Type 1} → statement M
 value-sized-spec =

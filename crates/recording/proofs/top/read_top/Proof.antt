@@ -61,7 +61,7 @@ loop-less : tie.Need-loop-less Inv-loop μ-loop
 loop-less c = let o = find-past (c .before .before .before .before .before .before .before .before .before .before .before .before .before .before .before .before .before .before .before .before .before .args .s .now) _ (c .before .before .before .before .before .before .before .before .before .before .before .before .before .before .before .loop .j) ((c .before .before .before .before .before .before .before .before .before .before .before .before .before .before .before .loop .top) .places) ((c .before .before .before .before .before .before .before .before .before .before .before .before .before .before .before .loop .inv) .finding) _ (sym (c .before .before .before .before .before .before .before .before .before .before .before .before .before .before .next-name .ensures) ∙ (c .before .before .before .before .before .before .before .before .before .before .before .before .g .given .1)) _ _ (c .next-item .ensures) (c .before .before .before .before .before .before .read-part .ensures .1 .1) in omega arith
 
 loop-again : tie.Need-loop-again Inv-loop μ-loop
-loop-again c = record { finding = find-on (c .before .before .before .before .before .before .before .before .before .before .before .before .before .before .before .before .before .before .before .before .before .args .s .now) _ (c .before .before .before .before .before .before .before .before .before .before .before .before .before .before .before .loop .j) ((c .before .before .before .before .before .before .before .before .before .before .before .before .before .before .before .loop .top) .places) ((c .before .before .before .before .before .before .before .before .before .before .before .before .before .before .before .loop .inv) .finding) _ (sym (c .before .before .before .before .before .before .before .before .before .before .before .before .before .before .next-name .ensures) ∙ (c .before .before .before .before .before .before .before .before .before .before .before .before .g .given .1)) _ _ (c .next-item .ensures) (c .before .before .before .before .before .before .read-part .ensures .1 .1) _ (c .before .before .before .before .before .before .before .before .before .before .part-of .ensures) _ (c .before .before .before .before .before .before .before .before .before .top-name .ensures) _ (c .before .before .before .before .before .before .read-part .ensures .0); parts = (c .before .before .before .before .before .before .read-part .ensures .1 .0); caps-long = ((c .before .before .before .before .before .before .read-part .kept .1 .1 .1 .1 .0)) ∙ (c .before .before .before .before .before .before .before .before .before .before .before .before .before .before .before .loop .inv) .caps-long; notes-long = ((c .before .before .before .before .before .before .read-part .kept .1 .1 .1 .1 .1 .0)) ∙ (c .before .before .before .before .before .before .before .before .before .before .before .before .before .before .before .loop .inv) .notes-long }
+loop-again c = record { finding = find-on (c .before .before .before .before .before .before .before .before .before .before .before .before .before .before .before .before .before .before .before .before .before .args .s .now) _ (c .before .before .before .before .before .before .before .before .before .before .before .before .before .before .before .loop .j) ((c .before .before .before .before .before .before .before .before .before .before .before .before .before .before .before .loop .top) .places) ((c .before .before .before .before .before .before .before .before .before .before .before .before .before .before .before .loop .inv) .finding) _ (sym (c .before .before .before .before .before .before .before .before .before .before .before .before .before .before .next-name .ensures) ∙ (c .before .before .before .before .before .before .before .before .before .before .before .before .g .given .1)) _ _ (c .next-item .ensures) (c .before .before .before .before .before .before .read-part .ensures .1 .1) _ (c .before .before .before .before .before .before .before .before .before .before .part-of .ensures .0) _ (c .before .before .before .before .before .before .before .before .before .top-name .ensures) _ (c .before .before .before .before .before .before .read-part .ensures .0); parts = (c .before .before .before .before .before .before .read-part .ensures .1 .0); caps-long = ((c .before .before .before .before .before .before .read-part .kept .1 .1 .1 .1 .0)) ∙ (c .before .before .before .before .before .before .before .before .before .before .before .before .before .before .before .loop .inv) .caps-long; notes-long = ((c .before .before .before .before .before .before .read-part .kept .1 .1 .1 .1 .1 .0)) ∙ (c .before .before .before .before .before .before .before .before .before .before .before .before .before .before .before .loop .inv) .notes-long }
 
 pub read-top-spec : {M : Type 1} → statement M
 read-top-spec =

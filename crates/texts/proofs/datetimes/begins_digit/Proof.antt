@@ -14,13 +14,13 @@ enum-told : tie.Need-enum-told
 enum-told c = search needs
 
 returns : tie.Need-returns
-returns c = starts-end _ (streamed-end _ _ _ (c .before .before .next .ensures) (c .enum-told .given .1))
+returns c = starts-end _ (streamed-end _ _ _ _ (c .before .before .next .ensures) (c .enum-told .given .1))
 
 is-within-requires : tie.Need-is-within-requires
 is-within-requires c κs = search needs
 
 returns-2 : tie.Need-returns-2
-returns-2 c = starts-is _ _ _ (streamed-next _ _ _ (c .before .before .before .before .next .ensures) _ _ _ (c .before .before .g .given .1)) _ (c .is-within .ensures)
+returns-2 c = starts-is _ _ _ (streamed-next _ _ _ _ (c .before .before .before .before .next .ensures) _ _ _ (c .before .before .g .given .1)) _ (c .is-within .ensures)
 
 pub begins-digit-spec : {M : Type 1} → statement M
 begins-digit-spec =

@@ -14,10 +14,10 @@ enum-told : tie.Need-enum-told
 enum-told c = search needs
 
 returns : tie.Need-returns
-returns c = empty-end _ (streamed-end _ _ _ (c .before .before .next .ensures) (c .enum-told .given .1))
+returns c = empty-end _ (streamed-end _ _ _ _ (c .before .before .next .ensures) (c .enum-told .given .1))
 
 returns-2 : tie.Need-returns-2
-returns-2 c = empty-not _ _ _ (streamed-next _ _ _ (c .before .before .before .next .ensures) _ _ _ (c .before .g .given .1))
+returns-2 c = empty-not _ _ _ (streamed-next _ _ _ _ (c .before .before .before .next .ensures) _ _ _ (c .before .g .given .1))
 
 pub is-end-spec : {M : Type 1} → statement M
 is-end-spec = tie.close (tie.spec next-requires enum-known-g enum-told returns returns-2)

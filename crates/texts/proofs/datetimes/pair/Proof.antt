@@ -17,7 +17,7 @@ enum-told : tie.Need-enum-told
 enum-told c = search needs
 
 returns : tie.Need-returns
-returns c = pair-end _ (streamed-end _ _ _ (c .before .before .next .ensures) (c .enum-told .given .1))
+returns c = pair-end _ (streamed-end _ _ _ _ (c .before .before .next .ensures) (c .enum-told .given .1))
 
 is-within-requires : tie.Need-is-within-requires
 is-within-requires c κs = search needs
@@ -32,7 +32,7 @@ enum-told-2 : tie.Need-enum-told-2
 enum-told-2 c = search needs
 
 returns-2 : tie.Need-returns-2
-returns-2 c = pair-one _ _ _ (streamed-next _ _ _ (c .before .before .before .before .before .before .before .before .next .ensures) _ _ _ (c .before .before .before .before .before .before .g .given .1)) (streamed-end _ _ _ (c .before .before .next2 .ensures) (c .enum-told2 .given .1))
+returns-2 c = pair-one _ _ _ (streamed-next _ _ _ _ (c .before .before .before .before .before .before .before .before .next .ensures) _ _ _ (c .before .before .before .before .before .before .g .given .1)) (streamed-end _ _ _ _ (c .before .before .next2 .ensures) (c .enum-told2 .given .1))
 
 is-within-requires-2 : tie.Need-is-within-requires-2
 is-within-requires-2 c κs = search needs
@@ -56,13 +56,13 @@ add-t19 : tie.Need-add-t19
 add-t19 c = search needs
 
 returns-3 : tie.Need-returns-3
-returns-3 c = pair-both _ _ _ (streamed-next _ _ _ (c .before .before .before .before .before .before .before .before .before .before .before .next .ensures) _ _ _ (c .before .before .before .before .before .before .before .before .before .g .given .1)) _ _ (streamed-next _ _ _ (c .before .before .before .before .before .next2 .ensures) _ _ _ (c .before .before .before .h .given .1)) (sym (c .before .before .before .before .before .before .before .is-within .ensures) ∙ (c .before .before .before .before .before .before .if1 .taken)) (sym (c .before .is-within2 .ensures) ∙ (c .if2 .taken))
+returns-3 c = pair-both _ _ _ (streamed-next _ _ _ _ (c .before .before .before .before .before .before .before .before .before .before .before .next .ensures) _ _ _ (c .before .before .before .before .before .before .before .before .before .g .given .1)) _ _ (streamed-next _ _ _ _ (c .before .before .before .before .before .next2 .ensures) _ _ _ (c .before .before .before .h .given .1)) (sym (c .before .before .before .before .before .before .before .is-within .ensures) ∙ (c .before .before .before .before .before .before .if1 .taken)) (sym (c .before .is-within2 .ensures) ∙ (c .if2 .taken))
 
 returns-4 : tie.Need-returns-4
-returns-4 c = pair-second _ _ _ (streamed-next _ _ _ (c .before .before .before .before .before .before .before .before .before .before .before .next .ensures) _ _ _ (c .before .before .before .before .before .before .before .before .before .g .given .1)) _ _ (streamed-next _ _ _ (c .before .before .before .before .before .next2 .ensures) _ _ _ (c .before .before .before .h .given .1)) (sym (c .before .before .before .before .before .before .before .is-within .ensures) ∙ (c .before .before .before .before .before .before .if1 .taken)) (sym (c .before .is-within2 .ensures) ∙ (c .if2 .left))
+returns-4 c = pair-second _ _ _ (streamed-next _ _ _ _ (c .before .before .before .before .before .before .before .before .before .before .before .next .ensures) _ _ _ (c .before .before .before .before .before .before .before .before .before .g .given .1)) _ _ (streamed-next _ _ _ _ (c .before .before .before .before .before .next2 .ensures) _ _ _ (c .before .before .before .h .given .1)) (sym (c .before .before .before .before .before .before .before .is-within .ensures) ∙ (c .before .before .before .before .before .before .if1 .taken)) (sym (c .before .is-within2 .ensures) ∙ (c .if2 .left))
 
 returns-5 : tie.Need-returns-5
-returns-5 c = pair-first _ _ _ (streamed-next _ _ _ (c .before .before .before .before .before .next .ensures) _ _ _ (c .before .before .before .g .given .1)) (sym (c .before .is-within .ensures) ∙ (c .if1 .left))
+returns-5 c = pair-first _ _ _ (streamed-next _ _ _ _ (c .before .before .before .before .before .next .ensures) _ _ _ (c .before .before .before .g .given .1)) (sym (c .before .is-within .ensures) ∙ (c .if1 .left))
 
 pub pair-spec : {M : Type 1} → statement M
 pair-spec =

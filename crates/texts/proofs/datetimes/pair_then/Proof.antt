@@ -26,13 +26,13 @@ enum-told-2 : tie.Need-enum-told-2
 enum-told-2 c = search needs
 
 returns-2 : tie.Need-returns-2
-returns-2 c = mark-2 _ _ _ _ _ (c .before .before .before .before .before .before .pair .ensures) _ _ _ (c .before .before .before .before .r .given .1) (streamed-end _ _ _ (c .before .before .next .ensures) (c .enum-told2 .given .1))
+returns-2 c = mark-2 _ _ _ _ _ (c .before .before .before .before .before .before .pair .ensures) _ _ _ (c .before .before .before .before .r .given .1) (streamed-end _ _ _ _ (c .before .before .next .ensures) (c .enum-told2 .given .1))
 
 returns-3 : tie.Need-returns-3
-returns-3 c = mark-3 _ _ _ _ _ (c .before .before .before .before .before .before .before .before .pair .ensures) _ _ _ (c .before .before .before .before .before .before .r .given .1) _ _ (streamed-next _ _ _ (c .before .before .before .before .next .ensures) _ _ _ (c .before .before .g .given .1)) (c .if1 .taken)
+returns-3 c = mark-3 _ _ _ _ _ (c .before .before .before .before .before .before .before .before .pair .ensures) _ _ _ (c .before .before .before .before .before .before .r .given .1) _ _ (streamed-next _ _ _ _ (c .before .before .before .before .next .ensures) _ _ _ (c .before .before .g .given .1)) (c .if1 .taken)
 
 returns-4 : tie.Need-returns-4
-returns-4 c = mark-4 _ _ _ _ _ (c .before .before .before .before .before .before .before .before .pair .ensures) _ _ _ (c .before .before .before .before .before .before .r .given .1) _ _ (streamed-next _ _ _ (c .before .before .before .before .next .ensures) _ _ _ (c .before .before .g .given .1)) (c .if1 .left)
+returns-4 c = mark-4 _ _ _ _ _ (c .before .before .before .before .before .before .before .before .pair .ensures) _ _ _ (c .before .before .before .before .before .before .r .given .1) _ _ (streamed-next _ _ _ _ (c .before .before .before .before .next .ensures) _ _ _ (c .before .before .g .given .1)) (c .if1 .left)
 
 pub pair-then-spec : {M : Type 1} → statement M
 pair-then-spec =

@@ -15,16 +15,16 @@ enum-told : tie.Need-enum-told
 enum-told c = search needs
 
 returns : tie.Need-returns
-returns c = begun-end _ (streamed-end _ _ _ (c .before .before .next-byte .ensures) (c .enum-told .given .1))
+returns c = begun-end _ (streamed-end _ _ _ _ (c .before .before .next-byte .ensures) (c .enum-told .given .1))
 
 is-within-requires : tie.Need-is-within-requires
 is-within-requires c κs = search needs
 
 returns-2 : tie.Need-returns-2
-returns-2 c = begun-is _ _ _ (streamed-next _ _ _ (c .before .before .before .before .before .next-byte .ensures) _ _ _ (c .before .before .before .g .given .1)) _ (sym (c .before .is-within .ensures) ∙ (c .if1 .taken))
+returns-2 c = begun-is _ _ _ (streamed-next _ _ _ _ (c .before .before .before .before .before .next-byte .ensures) _ _ _ (c .before .before .before .g .given .1)) _ (sym (c .before .is-within .ensures) ∙ (c .if1 .taken))
 
 returns-3 : tie.Need-returns-3
-returns-3 c = begun-is _ _ _ (streamed-next _ _ _ (c .before .before .before .before .before .next-byte .ensures) _ _ _ (c .before .before .before .g .given .1)) _ (sym (c .before .is-within .ensures) ∙ (c .if1 .left))
+returns-3 c = begun-is _ _ _ (streamed-next _ _ _ _ (c .before .before .before .before .before .next-byte .ensures) _ _ _ (c .before .before .before .g .given .1)) _ (sym (c .before .is-within .ensures) ∙ (c .if1 .left))
 
 pub begins-part-spec : {M : Type 1} → statement M
 begins-part-spec =

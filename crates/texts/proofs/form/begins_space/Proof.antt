@@ -15,19 +15,19 @@ enum-told : tie.Need-enum-told
 enum-told c = search needs
 
 returns : tie.Need-returns
-returns c = space-end _ (sym (stream-start (c .before .before .before .before .args .raw .now) 0) ∙ streamed-end _ _ _ (c .before .before .next-byte .ensures) (c .enum-told .given .1))
+returns c = space-end _ (sym (stream-start (c .before .before .before .before .args .raw .now) 0) ∙ streamed-end _ _ _ _ (c .before .before .next-byte .ensures) (c .enum-told .given .1))
 
 returns-2 : tie.Need-returns-2
-returns-2 c = space-colon _ _ _ (sym (stream-start (c .before .before .before .before .before .before .args .raw .now) 0) ∙ streamed-next _ _ _ (c .before .before .before .before .next-byte .ensures) _ _ _ (c .before .before .g .given .1)) (c .if1 .taken)
+returns-2 c = space-colon _ _ _ (sym (stream-start (c .before .before .before .before .before .before .args .raw .now) 0) ∙ streamed-next _ _ _ _ (c .before .before .before .before .next-byte .ensures) _ _ _ (c .before .before .g .given .1)) (c .if1 .taken)
 
 is-within-requires : tie.Need-is-within-requires
 is-within-requires c κs = search needs
 
 returns-3 : tie.Need-returns-3
-returns-3 c = space-is _ _ _ (sym (stream-start (c .before .before .before .before .before .before .before .before .args .raw .now) 0) ∙ streamed-next _ _ _ (c .before .before .before .before .before .before .next-byte .ensures) _ _ _ (c .before .before .before .before .g .given .1)) _ (c .before .before .if1 .left) (sym (c .before .is-within .ensures) ∙ (c .if2 .taken))
+returns-3 c = space-is _ _ _ (sym (stream-start (c .before .before .before .before .before .before .before .before .args .raw .now) 0) ∙ streamed-next _ _ _ _ (c .before .before .before .before .before .before .next-byte .ensures) _ _ _ (c .before .before .before .before .g .given .1)) _ (c .before .before .if1 .left) (sym (c .before .is-within .ensures) ∙ (c .if2 .taken))
 
 returns-4 : tie.Need-returns-4
-returns-4 c = space-is _ _ _ (sym (stream-start (c .before .before .before .before .before .before .before .before .args .raw .now) 0) ∙ streamed-next _ _ _ (c .before .before .before .before .before .before .next-byte .ensures) _ _ _ (c .before .before .before .before .g .given .1)) _ (c .before .before .if1 .left) (sym (c .before .is-within .ensures) ∙ (c .if2 .left))
+returns-4 c = space-is _ _ _ (sym (stream-start (c .before .before .before .before .before .before .before .before .args .raw .now) 0) ∙ streamed-next _ _ _ _ (c .before .before .before .before .before .before .next-byte .ensures) _ _ _ (c .before .before .before .before .g .given .1)) _ (c .before .before .if1 .left) (sym (c .before .is-within .ensures) ∙ (c .if2 .left))
 
 pub begins-space-spec : {M : Type 1} → statement M
 begins-space-spec =

@@ -28,19 +28,19 @@ enum-told : tie.Need-enum-told Inv-loop μ-loop
 enum-told c = search needs
 
 returns : tie.Need-returns Inv-loop μ-loop
-returns c = all-end _ nameByte (streamed-end _ _ _ (c .before .before .next-byte .ensures) (c .enum-told .given .1)) ∙ (c .before .before .before .loop .inv)
+returns c = all-end _ nameByte (streamed-end _ _ _ _ (c .before .before .next-byte .ensures) (c .enum-told .given .1)) ∙ (c .before .before .before .loop .inv)
 
 is-name-byte-requires : tie.Need-is-name-byte-requires Inv-loop μ-loop
 is-name-byte-requires c κs = search needs
 
 loop-less : tie.Need-loop-less Inv-loop μ-loop
-loop-less c = shorter _ _ _ (streamed-next _ _ _ (c .before .before .before .before .before .next-byte .ensures) _ _ _ (c .before .before .before .g .given .1))
+loop-less c = shorter _ _ _ (streamed-next _ _ _ _ (c .before .before .before .before .before .next-byte .ensures) _ _ _ (c .before .before .before .g .given .1))
 
 loop-again : tie.Need-loop-again Inv-loop μ-loop
-loop-again c = all-on _ _ _ (streamed-next _ _ _ (c .before .before .before .before .before .next-byte .ensures) _ _ _ (c .before .before .before .g .given .1)) nameByte (sym (c .before .is-name-byte .ensures) ∙ (c .if1 .taken)) ∙ (c .before .before .before .before .before .before .loop .inv)
+loop-again c = all-on _ _ _ (streamed-next _ _ _ _ (c .before .before .before .before .before .next-byte .ensures) _ _ _ (c .before .before .before .g .given .1)) nameByte (sym (c .before .is-name-byte .ensures) ∙ (c .if1 .taken)) ∙ (c .before .before .before .before .before .before .loop .inv)
 
 returns-2 : tie.Need-returns-2 Inv-loop μ-loop
-returns-2 c = all-not _ _ _ (streamed-next _ _ _ (c .before .before .before .before .before .next-byte .ensures) _ _ _ (c .before .before .before .g .given .1)) nameByte (sym (c .before .is-name-byte .ensures) ∙ (c .if1 .left)) ∙ (c .before .before .before .before .before .before .loop .inv)
+returns-2 c = all-not _ _ _ (streamed-next _ _ _ _ (c .before .before .before .before .before .next-byte .ensures) _ _ _ (c .before .before .before .g .given .1)) nameByte (sym (c .before .is-name-byte .ensures) ∙ (c .if1 .left)) ∙ (c .before .before .before .before .before .before .loop .inv)
 
 pub has-name-bytes-spec : {M : Type 1} → statement M
 has-name-bytes-spec =

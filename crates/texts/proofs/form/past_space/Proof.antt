@@ -28,22 +28,22 @@ enum-told : tie.Need-enum-told Inv-loop μ-loop
 enum-told c = search needs
 
 returns : tie.Need-returns Inv-loop μ-loop
-returns c = past-end _ (streamed-end _ _ _ (c .before .before .next-byte .ensures) (c .enum-told .given .1)) ∙ (c .before .before .before .loop .inv)
+returns c = past-end _ (streamed-end _ _ _ _ (c .before .before .next-byte .ensures) (c .enum-told .given .1)) ∙ (c .before .before .before .loop .inv)
 
 returns-2 : tie.Need-returns-2 Inv-loop μ-loop
-returns-2 c = past-colon _ _ _ (streamed-next _ _ _ (c .before .before .before .before .next-byte .ensures) _ _ _ (c .before .before .g .given .1)) (c .if1 .taken) ∙ (c .before .before .before .before .before .loop .inv)
+returns-2 c = past-colon _ _ _ (streamed-next _ _ _ _ (c .before .before .before .before .next-byte .ensures) _ _ _ (c .before .before .g .given .1)) (c .if1 .taken) ∙ (c .before .before .before .before .before .loop .inv)
 
 is-space-byte-requires : tie.Need-is-space-byte-requires Inv-loop μ-loop
 is-space-byte-requires c κs = search needs
 
 loop-less : tie.Need-loop-less Inv-loop μ-loop
-loop-less c = shorter _ _ _ (streamed-next _ _ _ (c .before .before .before .before .before .before .next-byte .ensures) _ _ _ (c .before .before .before .before .g .given .1))
+loop-less c = shorter _ _ _ (streamed-next _ _ _ _ (c .before .before .before .before .before .before .next-byte .ensures) _ _ _ (c .before .before .before .before .g .given .1))
 
 loop-again : tie.Need-loop-again Inv-loop μ-loop
-loop-again c = past-on _ _ _ (streamed-next _ _ _ (c .before .before .before .before .before .before .next-byte .ensures) _ _ _ (c .before .before .before .before .g .given .1)) (c .before .before .if1 .left) (sym (c .before .is-space-byte .ensures) ∙ (c .if2 .taken)) ∙ (c .before .before .before .before .before .before .before .loop .inv)
+loop-again c = past-on _ _ _ (streamed-next _ _ _ _ (c .before .before .before .before .before .before .next-byte .ensures) _ _ _ (c .before .before .before .before .g .given .1)) (c .before .before .if1 .left) (sym (c .before .is-space-byte .ensures) ∙ (c .if2 .taken)) ∙ (c .before .before .before .before .before .before .before .loop .inv)
 
 returns-3 : tie.Need-returns-3 Inv-loop μ-loop
-returns-3 c = past-not _ _ _ (streamed-next _ _ _ (c .before .before .before .before .before .before .next-byte .ensures) _ _ _ (c .before .before .before .before .g .given .1)) (c .before .before .if1 .left) (sym (c .before .is-space-byte .ensures) ∙ (c .if2 .left)) ∙ (c .before .before .before .before .before .before .before .loop .inv)
+returns-3 c = past-not _ _ _ (streamed-next _ _ _ _ (c .before .before .before .before .before .before .next-byte .ensures) _ _ _ (c .before .before .before .before .g .given .1)) (c .before .before .if1 .left) (sym (c .before .is-space-byte .ensures) ∙ (c .if2 .left)) ∙ (c .before .before .before .before .before .before .before .loop .inv)
 
 pub past-space-spec : {M : Type 1} → statement M
 past-space-spec =

@@ -39,7 +39,7 @@ wrapping-add-u64-requires : tie.Need-wrapping-add-u64-requires Inv-loop μ-loop
 wrapping-add-u64-requires c κs = search needs
 
 loop-less : tie.Need-loop-less Inv-loop μ-loop
-loop-less c = shorter _ _ _ (streamed-next _ _ _ (c .before .before .before .before .before .before .next-byte .ensures) _ _ _ (c .before .before .before .before .r .given .1))
+loop-less c = shorter _ _ _ (streamed-next _ _ _ _ (c .before .before .before .before .before .before .next-byte .ensures) _ _ _ (c .before .before .before .before .r .given .1))
 
 loop-again : tie.Need-loop-again Inv-loop μ-loop
 loop-again c = search needs
