@@ -46,6 +46,27 @@ among-runs f w x (suc k) i a =
     next : OfSample f w (suc i) (suc i + k) x → OfSample f w i (i + suc k) x
     next S = record { sample = S .sample; low = omega (arith, S .low); high = omega (arith, S .high); from = S .from; upto = S .upto }
 
+-- ---- a byte of a sample is a byte of pieces
+put-among : (x : ℕ) (p : Piece) (xs : List Piece) → In x p ⊎ Among x xs → Among x (put p xs)
+unfolding Among
+put-among x p [] a = unfold put in a
+put-among x p (q ∷ t) a = elim (ℕ-discrete (p .first + p .len) (q .first)) [ yes e ↦ rw (put-touch p q t e) (near e a) | no e ↦ rw (put-apart p q t e) a ]
+  where
+    near : p .first + p .len ≡ q .first → In x p ⊎ (In x q ⊎ Among x t) → Among x (record { first = p .first; len = p .len + q .len } ∷ t)
+    near e b = ⊎-elim (λ h. inl (h .0, omega arith)) (λ c. ⊎-elim (λ h. inl (omega arith, omega arith)) (λ d. inr d) c) b
+
+pub runs-among : (f : ℕ → ℕ) (w x k i : ℕ) → OfSample f w i (i + k) x → Among x (runs f w k i)
+unfolding runs
+runs-among f w x zero i S = absurd (omega (arith, S .low, S .high))
+runs-among f w x (suc k) i S =
+    put-among x (record { first = f i; len = w }) (runs f w k (suc i)) (elim (ℕ-discrete i (S .sample)) [
+      | yes e ↦ inl (here e)
+      | no e ↦ inr (runs-among f w x k (suc i) (record { sample = S .sample; low = omega (arith, S .low); high = omega (arith, S .high); from = S .from; upto = S .upto }))
+    ])
+  where
+    here : i ≡ S .sample → (f i ≤ x) × (x < f i + w)
+    here e = rw e (S .from, S .upto)
+
 -- ---- a byte of a sample is no header byte
 -- rows that all start after sample j
 later-rows : (o e w s h : ℕ) (rs : List Capture) (j p : ℕ) → capturesOk o e w s h rs ≡ true → j < s → p + w ≤ (suc j - o) * w + h

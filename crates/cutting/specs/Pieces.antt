@@ -2,12 +2,12 @@
 use Prim.Native.Nat.{ℕ, zero, suc, _+_, _-_, _*_}
 use mathlib.Core.Bool.{Bool, true, false, _&&_, cond}
 use mathlib.Core.List.{List, [], _∷_}
-use lib.ListN.{length}
+use lib.ListN.{length, getD}
 use lib.Dec.{leb, eqb}
 use Rattle.table.specs.declared.Capture.{Capture}
 use Rattle.table.specs.declared.Summary.{Summary}
-use Rattle.table.specs.Memory.{written}
-use Rattle.table.specs.Rows.{capturesOf, flat}
+use Rattle.table.specs.Memory.{written, row}
+use Rattle.table.specs.Rows.{capturesOf, rest, flat}
 use Rattle.table.specs.Samples.{place}
 use Rattle.table.specs.Table.{wellFormed}
 use Rattle.cutting.specs.declared.Wrote.{Wrote}
@@ -22,6 +22,13 @@ pieceWidth = 2
 
 abbrev pub pieceNumbers : Piece → List ℕ
 pieceNumbers p = p .first ∷ p .len ∷ []
+
+abbrev pub pieceOf : List ℕ → Piece
+pieceOf l = record { first = getD l 0 0; len = getD l 1 0 }
+
+-- the first n pieces of a memory, read back
+abbrev pub piecesRead : List ℕ → ℕ → List Piece
+piecesRead m n = rest (λ i. pieceOf (row pieceWidth m i)) n 0
 
 -- a piece before others: "Two pieces touch if one ends where the next begins; joined, their lengths add"
 unfoldable pub put : Piece → List Piece → List Piece

@@ -1,2 +1,5 @@
+pub mod CaptureLaws
+pub mod CountLaws
+pub mod UniqueLaws
+pub mod RangeLaws
 pub mod Theorem
-pub mod Examples

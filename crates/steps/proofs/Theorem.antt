@@ -1,26 +1,27 @@
 -- Demand 3, for every list of steps on every well-formed table with its dataset.
-use Prim.Native.Nat.{ℕ, zero, suc, _+_, _-_, _*_, _≤_, _<_}
+use Prim.Native.Nat.{ℕ, _+_, _*_, _≤_, _<_}
 use mathlib.Core.Path.{_≡_, refl, sym, ap, _∙_}
 use mathlib.Core.Bool.{Bool, true, false, _&&_, cond}
-use mathlib.Core.List.{List, [], _∷_, _++_}
+use mathlib.Core.List.{List, [], _∷_}
 use native.Mathlib.Omega.{arith}
-use lib.ListN.{length, take, drop}
-use lib.Seq.{take-append-seam}
+use lib.ListN.{length}
 use lib.Dec.{leb, eqb}
-use borrow.Author.Tests.{le-leb, leb-true, eq-eqb}
+use borrow.Author.Tests.{leb-true, eq-eqb}
 use Rattle.table.specs.declared.Summary.{Summary}
 use Rattle.table.specs.Memory.{written}
 use Rattle.table.specs.Rows.{captureNumbers, annotationNumbers, flat, capturesOf, annotationsOf}
-use Rattle.table.specs.Table.{wellFormed, refused}
+use Rattle.table.specs.Table.{refused}
 use Rattle.table.proofs.Bools.{and-left, and-right}
-use Rattle.table.proofs.TableLaws.{Formed, Numbers, formed, well-formed}
+use Rattle.table.proofs.TableLaws.{well-formed}
 use Rattle.cutting.specs.Pieces.{inside, wrote}
 use Rattle.cutting.specs.Cut.{Table, cut, cutSummary, cutCaptures, cutAnnotations, cutAnswer}
 use Rattle.cutting.specs.Copy.{copyAnswer}
 use Rattle.cutting.proofs.PiecesLaws.{Inside, within, inside-true}
-use Rattle.cutting.proofs.SampleLaws.{length-bytes}
-use Rattle.cutting.proofs.CutLaws.{captures-twice, annotations-twice, captures-read, annotations-read, cut-formed, cut-again, copy-again}
-use Rattle.steps.specs.Steps.{Held, Step, accepted, left, step, run, accepts, Last, none, some, Sizes, sizes, allSizes, low, high, theCut, theCopy, fits, takes, next, last, model, Seen, seen, direct, Demand3}
+use Rattle.cutting.proofs.SampleLaws.{length-bytes, sample-kept, whole}
+use Rattle.cutting.proofs.CutLaws.{captures-twice, annotations-twice, captures-read, annotations-read, cut-formed, cut-again, cut-place, copy-again}
+use Rattle.steps.specs.Calls.{Held, CutCall, theCut, theCopy, placeOf, sampleOf}
+use Rattle.steps.specs.Steps.{Step, accepted, left, step, run, accepts, Last, none, some, Sizes, sizes, allSizes, low, high, fits, takes, next, last, model, seen, direct, Demand3}
+use Rattle.steps.proofs.RangeLaws.{Ok, F, kept, cut-is, copy-back}
 
 -- ---- tests and facts
 record Fit (lo hi n m y : ℕ) (k : Sizes) : Type 0 where
@@ -67,10 +68,6 @@ fits-same lo hi n m y n′ m′ y′ k f =
     go false v w g = refl
 
 -- ---- one step on a table that is well formed, with its dataset
-pub record Ok (s : Held) : Type 0 where
-  pub accepted-table : wellFormed (s .summary) (s .captures) (s .annotations) ≡ true
-  pub long : length (s .bytes) ≡ s .summary .size
-
 -- the cut and copy of a to b, with the rows in memories m and q
 abbrev pub At : Held → ℕ → ℕ → List ℕ → List ℕ → Held
 At s a b m q = record {
@@ -92,57 +89,49 @@ both true false y u n h = refl
 both false x y u n h = refl
 
 module _ (s : Held) (g : Ok s) where
-  F : Formed (s .summary) (s .captures) (s .annotations)
-  F = formed (s .summary) (s .captures) (s .annotations) (g .accepted-table)
-
-  kept : (a b : ℕ) → theCut s a b .summary .refusal ≡ 0
-  unfolding cut cutSummary
-  kept a b = F .nums .said
-
   accepted-fits : (k : Step) → accepted s k ≡ fits (s .summary .offset) (s .summary .offset + s .summary .samples) (length (theCut s (k .from) (k .to) .captures))
       (length (theCut s (k .from) (k .to) .annotations)) (length (theCopy s (k .from) (k .to))) (sizes k)
   unfolding accepted cutAnswer copyAnswer fits inside
-  accepted-fits k = rw (g .accepted-table, eq-eqb _ _ (g .long)) (both (inside (s .summary) (k .from) (k .to)) _ _ (theCut s (k .from) (k .to) .summary) _ (kept (k .from) (k .to)))
-
-  module _ (a b : ℕ) (f : inside (s .summary) a b ≡ true) where
-    cut-is : (x y : ℕ) → 4 * length (theCut s a b .captures) ≤ x → 4 * length (theCut s a b .annotations) ≤ y → cutAnswer (s .summary) (s .captures) (s .annotations) a b x y ≡ theCut s a b .summary
-    unfolding cutAnswer
-    cut-is x y h k = rw (g .accepted-table, f, le-leb _ _ h, le-leb _ _ k)
-
-    copy-is : (room : ℕ) → length (theCopy s a b) ≤ room → copyAnswer (s .summary) (s .captures) (s .annotations) (s .bytes) a b room ≡ wrote 0 (length (theCopy s a b))
-    unfolding copyAnswer
-    copy-is room h = rw (g .accepted-table, eq-eqb _ _ (g .long), f, le-leb _ _ h)
+  accepted-fits k = rw (g .accepted-table, eq-eqb _ _ (g .long)) (both (inside (s .summary) (k .from) (k .to)) _ _ (theCut s (k .from) (k .to) .summary) _ (kept s g (k .from) (k .to)))
 
   left-is : (k : Step) → inside (s .summary) (k .from) (k .to) ≡ true
       → 4 * length (theCut s (k .from) (k .to) .captures) ≤ length (k .captures) → 4 * length (theCut s (k .from) (k .to) .annotations) ≤ length (k .annotations)
       → length (theCopy s (k .from) (k .to)) ≤ length (k .bytes) → left s k ≡ At s (k .from) (k .to) (k .captures) (k .annotations)
   unfolding left
   left-is k f p q r =
-      let e = cut-is (k .from) (k .to) f (length (k .captures)) (length (k .annotations)) p q in
-      held e (rw (e, kept (k .from) (k .to)) (unfold cut in refl)) (rw (e, kept (k .from) (k .to)) (unfold cut in refl))
-      (rw (copy-is _ _ f _ r) (take-append-seam (theCopy s (k .from) (k .to)) _))
+      let e = cut-is s g (k .from) (k .to) f (k .captures) (k .annotations) p q in
+      held (ap (λ (c : CutCall). c .answer) e) (ap (λ (c : CutCall). c .captures) e ∙ (unfold cut in refl)) (ap (λ (c : CutCall). c .annotations) e ∙ (unfold cut in refl))
+      (copy-back s g (k .from) (k .to) f (k .bytes) r)
 
   ok-at : (a b : ℕ) (m q : List ℕ) → inside (s .summary) a b ≡ true → Ok (At s a b m q)
   unfolding cut cutSummary
   ok-at a b m q f = record {
-    accepted-table = well-formed _ _ _ (cut-formed (s .summary) (s .captures) (s .annotations) m q a b F f);
-    long = length-bytes (s .summary) (s .captures) (s .bytes) (F .laid) (g .long) a b f;
+    accepted-table = well-formed _ _ _ (cut-formed (s .summary) (s .captures) (s .annotations) m q a b (F s g) f);
+    long = length-bytes (s .summary) (s .captures) (s .bytes) (F s g .laid) (g .long) a b f;
   }
 
   -- a cut and copy of a cut and copy is that of the first
   at-at : (a b c d : ℕ) (m q m′ q′ : List ℕ) → inside (s .summary) a b ≡ true → a ≤ c → c ≤ d → d ≤ b → At (At s a b m q) c d m′ q′ ≡ At s c d m′ q′
   unfolding cut cutSummary
   at-at a b c d m q m′ q′ f x y z =
-      held (ap (λ (v : Table). v .summary) (cut-again (s .summary) (s .captures) (s .annotations) m q a b F f c d x z)) captures annotations bytes
+      held (ap (λ (v : Table). v .summary) (cut-again (s .summary) (s .captures) (s .annotations) m q a b (F s g) f c d x z)) captures annotations bytes
     where
       captures : At (At s a b m q) c d m′ q′ .captures ≡ At s c d m′ q′ .captures
-      captures = rw (captures-read (s .summary) (s .captures) (s .annotations) m q a b F f, captures-twice a b c d x z (s .summary .width) (capturesOf (s .summary) (s .captures)))
+      captures = rw (captures-read (s .summary) (s .captures) (s .annotations) m q a b (F s g) f, captures-twice a b c d x z (s .summary .width) (capturesOf (s .summary) (s .captures)))
 
       annotations : At (At s a b m q) c d m′ q′ .annotations ≡ At s c d m′ q′ .annotations
-      annotations = rw (annotations-read (s .summary) (s .captures) (s .annotations) m q a b F f, annotations-twice a b c d x z (annotationsOf (s .summary) (s .annotations)))
+      annotations = rw (annotations-read (s .summary) (s .captures) (s .annotations) m q a b (F s g) f, annotations-twice a b c d x z (annotationsOf (s .summary) (s .annotations)))
 
       bytes : At (At s a b m q) c d m′ q′ .bytes ≡ At s c d m′ q′ .bytes
-      bytes = copy-again (s .summary) (s .captures) (s .annotations) m q a b F f (s .bytes) (g .long) c d x y z
+      bytes = copy-again (s .summary) (s .captures) (s .annotations) m q a b (F s g) f (s .bytes) (g .long) c d x y z
+
+step-no : (s : Held) (k : Step) → accepted s k ≡ false → step s k ≡ s
+unfolding step
+step-no s k e = ap (λ (b : Bool). cond b (left s k) s) e
+
+step-yes : (s : Held) (k : Step) → accepted s k ≡ true → step s k ≡ left s k
+unfolding step
+step-yes s k e = ap (λ (b : Bool). cond b (left s k) s) e
 
 -- ---- what stands for the original z after the last range p
 pub record Stands (z : Held) (p : Last) (s : Held) : Type 0 where
@@ -152,11 +141,12 @@ pub record Stands (z : Held) (p : Last) (s : Held) : Type 0 where
   pub inner : (c d : ℕ) → low z p ≤ c → c ≤ d → d ≤ high z p → inside (z .summary) c d ≡ true
   pub again : (c d : ℕ) (m q : List ℕ) → low z p ≤ c → c ≤ d → d ≤ high z p → At s c d m q ≡ At z c d m q
   pub same : seen s ≡ direct z p
+  pub samples : (i : ℕ) → low z p ≤ i → i < high z p → sampleOf s i ≡ sampleOf z i
 
 module _ (z : Held) (g : Ok z) where
   at-first : Stands z none z
   unfolding low high direct
-  at-first = record { ok = g; lo = refl; hi = refl; inner = λ c d p q r. inside-true (z .summary) c d p q r; again = λ c d m q x y w. refl; same = refl }
+  at-first = record { ok = g; lo = refl; hi = refl; inner = λ c d p q r. inside-true (z .summary) c d p q r; again = λ c d m q x y w. refl; same = refl; samples = λ i x y. refl }
 
   at-range : (a b : ℕ) (m q : List ℕ) → inside (z .summary) a b ≡ true → Stands z (some a b) (At z a b m q)
   unfolding low high direct seen cut cutSummary
@@ -169,6 +159,8 @@ module _ (z : Held) (g : Ok z) where
         inner = λ c d x y w. inside-true (z .summary) c d (omega arith) y (omega arith);
         again = λ c d m′ q′ x y w. at-at z g a b c d m q m′ q′ f x y w;
         same = rw (captures-read (z .summary) (z .captures) (z .annotations) m q a b (F z g) f, annotations-read (z .summary) (z .captures) (z .annotations) m q a b (F z g) f);
+        samples = λ i x y. rw (cut-place (z .summary) (z .captures) (z .annotations) m q a b (F z g) f i)
+            (sample-kept (placeOf z) (z .summary .width) (z .bytes) a b i x y (whole (z .summary) (z .captures) (z .bytes) (F z g .laid) (g .long) a b f));
       }
 
   module _ (p : Last) (s : Held) (S : Stands z p s) (k : Step) where
@@ -197,13 +189,13 @@ module _ (z : Held) (g : Ok z) where
         let F = fit _ _ _ _ _ (sizes k) e in
         S .inner (k .from) (k .to) (F .from) (F .up) (F .upto)
 
-    stands-yes : takes z p (sizes k) ≡ true → Stands z (next z p (sizes k)) (step s k)
-    unfolding next step
-    stands-yes e = rw (e, accepted-takes ∙ e, took e) (at-range (k .from) (k .to) (k .captures) (k .annotations) (took-in e))
-
     stands-no : takes z p (sizes k) ≡ false → Stands z (next z p (sizes k)) (step s k)
-    unfolding next step
-    stands-no e = rw (e, accepted-takes ∙ e) S
+    unfolding next
+    stands-no e = rw (e, step-no s k (accepted-takes ∙ e)) S
+
+    stands-yes : takes z p (sizes k) ≡ true → Stands z (next z p (sizes k)) (step s k)
+    unfolding next
+    stands-yes e = rw (e, step-yes s k (accepted-takes ∙ e), took e) (at-range (k .from) (k .to) (k .captures) (k .annotations) (took-in e))
 
     stands : Stands z (next z p (sizes k)) (step s k)
     stands = go (takes z p (sizes k)) refl
@@ -217,13 +209,21 @@ module _ (z : Held) (g : Ok z) where
   bits p s S [] = refl
   bits p s S (k ∷ ks) = rw (accepted-takes p s S k, bits (next z p (sizes k)) (step s k) (stands p s S k) ks)
 
-  ends : (p : Last) (s : Held) → Stands z p s → (ks : List Step) → seen (run s ks) ≡ direct z (last z p (allSizes ks))
+  stood : (p : Last) (s : Held) → Stands z p s → (ks : List Step) → Stands z (last z p (allSizes ks)) (run s ks)
   unfolding run last allSizes
-  ends p s S [] = S .same
-  ends p s S (k ∷ ks) = ends (next z p (sizes k)) (step s k) (stands p s S k) ks
+  stood p s S [] = S
+  stood p s S (k ∷ ks) = stood (next z p (sizes k)) (step s k) (stands p s S k) ks
 
--- the one claim about the list
-pub steps : (z : Held) → wellFormed (z .summary) (z .captures) (z .annotations) ≡ true → length (z .bytes) ≡ z .summary .size → (ks : List Step) → Demand3 z ks
-steps z e q ks =
-    let g : Ok z = record { accepted-table = e; long = q } in
-    (bits z g none z (at-first z g) ks, ends z g none z (at-first z g) ks)
+  -- the one claim about the list
+  pub steps : (ks : List Step) → Demand3 z ks
+  steps ks =
+      let S = stood none z at-first ks in
+      record {
+        same = bits none z at-first ks;
+        end = S .same;
+        formed = S .ok .accepted-table;
+        long = S .ok .long;
+        from = S .lo;
+        upto = S .hi;
+        samples = S .samples;
+      }

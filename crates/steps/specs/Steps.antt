@@ -1,22 +1,16 @@
 -- Document 01, "Rows, pieces, cuts": lists of steps (demand 3), and what they are compared with.
-use Prim.Native.Nat.{ℕ, _+_, _*_}
+use Prim.Native.Nat.{ℕ, _+_, _*_, _≤_, _<_}
 use mathlib.Core.Path.{_≡_}
-use mathlib.Core.Bool.{Bool, true, false, _&&_, cond}
+use mathlib.Core.Bool.{Bool, true, _&&_, cond}
 use mathlib.Core.List.{List, [], _∷_}
-use lib.ListN.{length, take}
+use lib.ListN.{length}
 use lib.Dec.{leb, eqb}
-use Rattle.table.specs.declared.Summary.{Summary}
 use Rattle.table.specs.Rows.{captureWidth, annotationWidth}
-use Rattle.cutting.specs.Cut.{Table, tableOf, cutIn, cutAnswer, cutCaptureMemory, cutAnnotationMemory}
-use Rattle.cutting.specs.Copy.{bytesIn, copyAnswer, copyMemory}
+use Rattle.table.specs.Table.{wellFormed}
+use Rattle.cutting.specs.Cut.{Table, tableOf}
+use Rattle.steps.specs.Calls.{Held, cutCall, copyCall, copyBack, cutHeld, theCut, theCopy, sampleOf}
 
--- ---- what runs: the summary, the memories that hold its rows, and the dataset
-pub record Held : Type 0 where
-  pub summary : Summary
-  pub captures : List ℕ
-  pub annotations : List ℕ
-  pub bytes : List ℕ
-
+-- ---- what runs
 -- "a step asks the cut and copy of any a and b, into other memory of any size": and of any content
 pub record Step : Type 0 where
   pub from : ℕ
@@ -28,18 +22,11 @@ pub record Step : Type 0 where
 -- "It is accepted if both are"
 unfoldable pub accepted : Held → Step → Bool
 accepted s k =
-    eqb (cutAnswer (s .summary) (s .captures) (s .annotations) (k .from) (k .to) (length (k .captures)) (length (k .annotations)) .refusal) 0
-    && eqb (copyAnswer (s .summary) (s .captures) (s .annotations) (s .bytes) (k .from) (k .to) (length (k .bytes)) .refusal) 0
+    eqb (cutCall s (k .from) (k .to) (k .captures) (k .annotations) .answer .refusal) 0 && eqb (copyCall s (k .from) (k .to) (k .bytes) .answer .refusal) 0
 
 -- "and leaves the cut's table and, as dataset, the bytes copied"
 unfoldable pub left : Held → Step → Held
-left s k = record {
-  summary = cutAnswer (s .summary) (s .captures) (s .annotations) (k .from) (k .to) (length (k .captures)) (length (k .annotations));
-  captures = cutCaptureMemory (s .summary) (s .captures) (s .annotations) (k .from) (k .to) (k .captures) (k .annotations);
-  annotations = cutAnnotationMemory (s .summary) (s .captures) (s .annotations) (k .from) (k .to) (k .captures) (k .annotations);
-  bytes = take (copyAnswer (s .summary) (s .captures) (s .annotations) (s .bytes) (k .from) (k .to) (length (k .bytes)) .count)
-      (copyMemory (s .summary) (s .captures) (s .annotations) (s .bytes) (k .from) (k .to) (k .bytes));
-}
+left s k = cutHeld s (k .from) (k .to) (k .captures) (k .annotations) (copyBack s (k .from) (k .to) (k .bytes))
 
 -- "otherwise the old ones"
 unfoldable pub step : Held → Step → Held
@@ -83,13 +70,6 @@ unfoldable pub high : Held → Last → ℕ
 high z none = z .summary .offset + z .summary .samples
 high z (some a b) = b
 
--- one cut of the original to a to b, and one copy
-abbrev pub theCut : Held → ℕ → ℕ → Table
-theCut z a b = cutIn (z .summary) (z .captures) (z .annotations) a b
-
-abbrev pub theCopy : Held → ℕ → ℕ → List ℕ
-theCopy z a b = bytesIn (z .summary) (z .captures) (z .bytes) a b
-
 -- a range in order within lo to hi, with room for n capture rows, m annotation rows and y bytes
 unfoldable pub fits : ℕ → ℕ → ℕ → ℕ → ℕ → Sizes → Bool
 fits lo hi n m y k =
@@ -125,6 +105,16 @@ unfoldable pub direct : Held → Last → Seen
 direct z none = seen z
 direct z (some a b) = record { table = theCut z a b; bytes = theCopy z a b }
 
--- demand 3: the same steps are accepted, and at the end all is as after one direct cut and copy to the last accepted range
-abbrev pub Demand3 : Held → List Step → Type 0
-Demand3 z ks = (accepts z ks ≡ model z none (allSizes ks)) × (seen (run z ks) ≡ direct z (last z none (allSizes ks)))
+-- demand 3, of the original z and any list of steps
+pub record Demand3 (z : Held) (ks : List Step) : Type 0 where
+  -- the steps that are accepted are those that the model takes
+  pub same : accepts z ks ≡ model z none (allSizes ks)
+  -- at the end all is as after one direct cut and copy to the last accepted range
+  pub end : seen (run z ks) ≡ direct z (last z none (allSizes ks))
+  -- a well-formed table with a dataset of its length
+  pub formed : wellFormed (run z ks .summary) (run z ks .captures) (run z ks .annotations) ≡ true
+  pub long : length (run z ks .bytes) ≡ run z ks .summary .size
+  -- its range is the last accepted one, and each sample of it has the bytes that it had
+  pub from : run z ks .summary .offset ≡ low z (last z none (allSizes ks))
+  pub upto : run z ks .summary .offset + run z ks .summary .samples ≡ high z (last z none (allSizes ks))
+  pub samples : (i : ℕ) → low z (last z none (allSizes ks)) ≤ i → i < high z (last z none (allSizes ks)) → sampleOf (run z ks) i ≡ sampleOf z i

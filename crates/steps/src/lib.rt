@@ -1,1 +1,1 @@
-// No code: lists of steps and their theorem stand in specs/ and proofs/.
+// No code: ranges, lists of steps and what holds of them stand in specs/ and proofs/.
