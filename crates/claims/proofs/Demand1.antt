@@ -1,161 +1,215 @@
--- Demand 1 holds of each answer that can be a refusal.
+-- Demand 1 holds of each entry.
 use Prim.Native.Nat.{ℕ, _*_}
-use mathlib.Core.Path.{_≡_, refl, sym, ap, _∙_}
-use mathlib.Core.Bool.{Bool, true, false, cond, _&&_}
-use mathlib.Core.List.{List}
+use mathlib.Core.Path.{_≡_, refl, sym, ap, subst, _∙_}
+use mathlib.Core.Bool.{Bool, true, false, cond, not, _&&_, _||_}
+use mathlib.Core.List.{List, [], _∷_}
+use native.Mathlib.Omega.{arith}
 use lib.ListN.{length}
 use lib.Dec.{leb, ltb, eqb}
-use borrow.Author.Tests.{ne-eqb, eqb-true}
-use Rattle.refusals.specs.Refusals.{lowest}
+use borrow.Author.Tests.{ne-eqb}
+use Rattle.limits.specs.Limits.{nesting}
+use Rattle.refusals.specs.Refusals.{Rule, rule, lowest, ByRules}
+use Rattle.refusals.proofs.RuleLaws.{rising, lowest-by}
+use Rattle.grammar.specs.Grammar.{Text}
+use Rattle.grammar.specs.Reading.{isJson}
+use Rattle.grammar.proofs.Theorem.{json-is-grammar}
+use Rattle.json.specs.Judged.{badMembers, judgeRules}
 use Rattle.table.specs.declared.Summary.{Summary}
-use Rattle.table.specs.declared.Annotation.{Annotation}
 use Rattle.table.specs.Rows.{captureWidth, annotationWidth, annotationAt, annotationsOf}
-use Rattle.table.specs.Table.{refused, wellFormed}
+use Rattle.table.specs.Table.{wellFormed}
 use Rattle.table.specs.Locate.{isSample, locateAnswer}
 use Rattle.table.proofs.TableLaws.{formed}
-use Rattle.layout.specs.Layout.{Contents, layoutRules, summaryIn, summaryOr, judgedLayout, layoutRefusal, layoutAnswer, capturesAfter, annotationsAfter}
+use Rattle.layout.specs.Layout.{Contents, layoutRules, summaryOr, judgedLayout, layoutRefusal, layoutAnswer, capturesAfter, annotationsAfter}
 use Rattle.layout.proofs.Theorem.{answer-number}
-use Rattle.cutting.specs.Pieces.{pieceWidth, piecesIn, inside, piecesAnswer, piecesMemory}
-use Rattle.cutting.specs.Cut.{cut, cutSummary, cutIn, cutAnswer, cutCaptureMemory, cutAnnotationMemory}
-use Rattle.cutting.specs.Copy.{bytesIn, copyAnswer, copyMemory}
-use Rattle.labels.specs.Text.{absent, part, stands}
-use Rattle.labels.specs.Label.{none, found, labelOf, labelAnswer, labelsOk}
+use Rattle.cutting.specs.Pieces.{pieceWidth, piecesIn, inside, piecesAnswer}
+use Rattle.cutting.specs.Cut.{cut, cutSummary, cutIn, cutAnswer}
+use Rattle.cutting.specs.Copy.{bytesIn, copyAnswer}
+use Rattle.labels.specs.Text.{absent, part, stands, textGood}
+use Rattle.labels.specs.Label.{Found, none, found, labelOf, labelAnswer, labelsOk}
 use Rattle.labels.specs.Label.{refused as notFound}
-use Rattle.listing.specs.Listing.{listingOf, listingAnswer, listingMemory}
+use Rattle.listing.specs.Listing.{listingOf, listingAnswer}
 use Rattle.recording.specs.Reading.{readRules, contents, judgement, readRefusal, readAnswer, capturesRead, annotationsRead}
-use Rattle.claims.specs.Demand1.{Kind, summaries, places, counts, labels, listings, NumberAlone, Keeps}
+use Rattle.accepted.proofs.Accepted.{or-number, read-number}
+use Rattle.derived.specs.Derived.{top}
+use Rattle.derived.specs.Rules.{badNode}
+use Rattle.derived.proofs.Refusal3.{bad-same}
+use Rattle.export_listing.specs.Label.{placed, labelled}
+use Rattle.claims.specs.Demand1.{Kind, Call, numberOf, Refuses, RefusesBy, summaries, places, counts, labels, listings, JudgedBy, judging, reading, summing, laying, layRules, locateRules, locating, labelRules, labelling, labellingPlace, piecesRules, piecing, cutRules, cutting, copyRules, copying, listingRules, listing, OfTable, Demand1}
+
+-- ---- answers by rules
+-- the number is the lowest of the rules, and stands alone unless it is 0
+record By {A : Type 0} (k : Kind A) (rs : List Rule) (x : A) : Type 0 where
+  number : k .number x ≡ lowest rs
+  alone : (k .number x ≡ 0 → ⊥) → x ≡ k .zeros (k .number x)
+
+-- a call that answers so, by rules in the order of their numbers
+refuses : {A : Type 0} (c : Call A) (rs : List Rule) → By (c .kind) rs (c .answer) → rising 0 rs ≡ true → ((numberOf c ≡ 0 → ⊥) → c .after ≡ c .before) → RefusesBy rs c
+refuses c rs b o k = record { number = subst (λ (n : ℕ). ByRules n rs) (sym (b .number)) (lowest-by 0 rs o); refusal = record { alone = b .alone; keeps = k } }
+
+-- a stage refuses with its number, or leaves the answer to what follows
+module _ {A : Type 0} (k : Kind A) (its : (n : ℕ) → k .number (k .zeros n) ≡ n) where
+  stage : (b c : Bool) → not b ≡ c → (x : A) (n : ℕ) (rs : List Rule) → (b ≡ true → By k rs x) → By k (rule n c ∷ rs) (cond b x (k .zeros n))
+  unfolding lowest
+  stage true c e x n rs f = record { number = f refl .number ∙ (rw (sym e)); alone = f refl .alone }
+  stage false c e x n rs f = record { number = its n ∙ (rw (sym e)); alone = λ _. ap (k .zeros) (sym (its n)) }
+
+-- an acceptance is no refusal
+accepted : {A : Type 0} (k : Kind A) (x : A) → k .number x ≡ 0 → By k [] x
+unfolding lowest
+accepted k x e = record { number = e; alone = λ h. absurd (h e) }
+
+-- not both
+either : (a b : Bool) → not (a && b) ≡ not a || not b
+either true b = refl
+either false b = refl
 
 -- memory that is written only on acceptance
-keeps : (n : ℕ) (w m : List ℕ) → (n ≡ 0 → ⊥) → cond (eqb n 0) w m ≡ m
-keeps n w m h = rw (ne-eqb n 0 h)
+kept : (n : ℕ) (w m : List ℕ) → (n ≡ 0 → ⊥) → cond (eqb n 0) w m ≡ m
+kept n w m h = rw (ne-eqb n 0 h)
 
--- a stage refuses with its number, or leaves the answer to what follows; an acceptance is no refusal
-module _ {A : Type 0} (k : Kind A) (its : (n : ℕ) → k .number (k .zeros n) ≡ n) where
-  stage : (b : Bool) (x : A) (n : ℕ) → (b ≡ true → NumberAlone k x) → NumberAlone k (cond b x (k .zeros n))
-  stage true x n f h = f refl h
-  stage false x n f h = ap (k .zeros) (sym (its n))
+-- one memory, and two
+one-kept : {w m : List ℕ} → w ≡ m → w ∷ [] ≡ m ∷ []
+one-kept e = ap (λ (l : List ℕ). l ∷ []) e
 
-accepted : {A : Type 0} (k : Kind A) (x : A) → k .number x ≡ 0 → NumberAlone k x
-accepted k x e h = absurd (h e)
+both-kept : {w m v k : List ℕ} → w ≡ m → v ≡ k → w ∷ v ∷ [] ≡ m ∷ k ∷ []
+both-kept e f = λ i. e i ∷ f i ∷ []
 
--- ---- read
--- the number of an answer is the refusal
-pub or-number : (n : ℕ) (k : Contents) (d : ℕ) → summaryOr n k d .refusal ≡ n
-unfolding summaryIn
-or-number n k d = go (eqb n 0) refl
-  where
-    go : (b : Bool) → eqb n 0 ≡ b → cond b (summaryIn k d) (refused n) .refusal ≡ n
-    go true e = sym (eqb-true n 0 e)
-    go false e = refl
+-- ---- the judge of a text
+module _ (s : List ℕ) where
+  derives : isJson s ≡ true → Text nesting s
+  derives = json-is-grammar s .0
 
-or-alone : (n : ℕ) (k : Contents) (d : ℕ) → NumberAlone summaries (summaryOr n k d)
+  judge-text : JudgedBy s (lowest (judgeRules s))
+  unfolding lowest
+  judge-text = record {
+    two = (λ e t. not-two (badMembers s) (rw (json-is-grammar s .1 t) at e), λ f. lost f (isJson s) refl);
+    three = λ t. rw (json-is-grammar s .1 t, bad-same t) (lowest-by 0 (rule 3 (badNode nesting (top t)) ∷ []) (unfold rising in refl));
+  }
+    where
+      not-two : (b : Bool) → lowest (rule 3 b ∷ []) ≡ 2 → ⊥
+      not-two true e = omega (arith, e)
+      not-two false e = omega (arith, e)
+
+      lost : (Text nesting s → ⊥) → (b : Bool) → isJson s ≡ b → lowest (rule 2 (not b) ∷ rule 3 (badMembers s) ∷ []) ≡ 2
+      lost f true e = absurd (f (derives e))
+      lost f false e = refl
+
+-- ---- the reader
+or-alone : (n : ℕ) (k : Contents) (d : ℕ) → (summaryOr n k d .refusal ≡ 0 → ⊥) → summaryOr n k d ≡ summaries .zeros (summaryOr n k d .refusal)
 or-alone n k d h =
     let e = or-number n k d in
     rw (ne-eqb n 0 (λ z. h (e ∙ z)))
 
-module _ (s : List ℕ) (d : ℕ) (caps notes : List ℕ) where
-  pub read-number : readAnswer s d caps notes .refusal ≡ readRefusal s d caps notes
-  unfolding readAnswer
-  read-number = or-number (readRefusal s d caps notes) (contents s) d
+judge : (s : List ℕ) (d : ℕ) → Refuses (judging s d)
+unfolding judgement
+judge s d = record { alone = or-alone (lowest (readRules s d)) (contents s) d; keeps = λ _. refl }
 
-  pub read-alone : NumberAlone summaries (readAnswer s d caps notes)
-  unfolding readAnswer
-  read-alone = or-alone (readRefusal s d caps notes) (contents s) d
-
-  pub read-keeps-captures : Keeps (readAnswer s d caps notes .refusal) caps (capturesRead s d caps notes)
-  unfolding capturesRead
-  read-keeps-captures h = keeps _ _ _ (λ z. h (read-number ∙ z))
-
-  pub read-keeps-annotations : Keeps (readAnswer s d caps notes .refusal) notes (annotationsRead s d caps notes)
-  unfolding annotationsRead
-  read-keeps-annotations h = keeps _ _ _ (λ z. h (read-number ∙ z))
-
-  -- without rows
-  pub judge-alone : NumberAlone summaries (judgement s d)
-  unfolding judgement
-  judge-alone = or-alone (lowest (readRules s d)) (contents s) d
+read : (s : List ℕ) (d : ℕ) (caps notes : List ℕ) → Refuses (reading s d caps notes)
+unfolding readAnswer capturesRead annotationsRead
+read s d caps notes = record {
+  alone = or-alone (readRefusal s d caps notes) (contents s) d;
+  keeps = λ h. both-kept (kept _ _ _ (λ z. h (read-number s d caps notes ∙ z))) (kept _ _ _ (λ z. h (read-number s d caps notes ∙ z)));
+}
 
 -- ---- a layout, of any contents
 module _ (k : Contents) (d : ℕ) where
-  pub judged-alone : NumberAlone summaries (judgedLayout k d)
-  unfolding judgedLayout
-  judged-alone = or-alone (lowest (layoutRules k d)) k d
+  or-by : (rs : List Rule) → By summaries rs (summaryOr (lowest rs) k d)
+  or-by rs = record { number = or-number (lowest rs) k d; alone = or-alone (lowest rs) k d }
 
-  module _ (caps notes : List ℕ) where
-    pub layout-alone : NumberAlone summaries (layoutAnswer k d caps notes)
-    unfolding layoutAnswer
-    layout-alone = or-alone (layoutRefusal k d caps notes) k d
+  lay-summary : RefusesBy (layoutRules k d) (summing k d)
+  unfolding judgedLayout rising
+  lay-summary = refuses (summing k d) (layoutRules k d) (or-by (layoutRules k d)) refl (λ _. refl)
 
-    pub layout-keeps-captures : Keeps (layoutAnswer k d caps notes .refusal) caps (capturesAfter k d caps notes)
-    unfolding capturesAfter
-    layout-keeps-captures h = keeps _ _ _ (λ z. h (answer-number k d caps notes ∙ z))
+  lay : (caps notes : List ℕ) → RefusesBy (layRules k d caps notes) (laying k d caps notes)
+  unfolding layoutRefusal layoutAnswer capturesAfter annotationsAfter rising
+  lay caps notes = refuses (laying k d caps notes) (layRules k d caps notes) (or-by (layRules k d caps notes)) refl
+      (λ h. both-kept (kept _ _ _ (λ z. h (answer-number k d caps notes ∙ z))) (kept _ _ _ (λ z. h (answer-number k d caps notes ∙ z))))
 
-    pub layout-keeps-annotations : Keeps (layoutAnswer k d caps notes .refusal) notes (annotationsAfter k d caps notes)
-    unfolding annotationsAfter
-    layout-keeps-annotations h = keeps _ _ _ (λ z. h (answer-number k d caps notes ∙ z))
-
--- ---- locate, pieces, cut, copy, label lookup and the listing, of any table
+-- ---- of any table
 module _ (t : Summary) (caps notes : List ℕ) where
-  pub locate-alone : (i : ℕ) → NumberAlone places (locateAnswer t caps notes i)
-  unfolding locateAnswer
-  locate-alone i = stage places (λ n. refl) (wellFormed t caps notes) _ 18 (λ _. stage places (λ n. refl) (isSample t i) _ 19 (λ _. accepted places _ refl))
+  abbrev well : Bool
+  well = wellFormed t caps notes
+
+  locate : (i : ℕ) → RefusesBy (locateRules t caps notes i) (locating t caps notes i)
+  unfolding locateAnswer rising
+  locate i = refuses (locating t caps notes i) (locateRules t caps notes i)
+      (stage places (λ n. refl) well _ refl _ 18 _ (λ _. stage places (λ n. refl) (isSample t i) _ refl _ 19 [] (λ _. accepted places _ refl))) refl (λ _. refl)
+
+  -- the label of one annotation: absent, or it stands, or it doesn't
+  label-by : (s : List ℕ) (n : ℕ) → By labels (labelRules t caps notes s n) (labelAnswer t caps notes s n)
+  unfolding labelAnswer labelOf textGood
+  label-by s n = go well (ltb n (t .annotations)) (absent at len) (stands s at len)
+    where
+      at : ℕ
+      at = annotationAt notes n .label
+
+      len : ℕ
+      len = annotationAt notes n .labellen
+
+      go : (w i a p : Bool) → By labels (rule 18 (not w || (i && not (a || p))) ∷ rule 19 (not i) ∷ [])
+          (cond w (cond i (cond a none (cond p (found (part s at len)) (notFound 18))) (notFound 19)) (notFound 18))
+      go false i a p = record { number = unfold lowest in refl; alone = λ _. refl }
+      go true false a p = record { number = unfold lowest in refl; alone = λ _. refl }
+      go true true true p = record { number = unfold lowest in refl; alone = λ h. absurd (h refl) }
+      go true true false true = record { number = unfold lowest in refl; alone = λ h. absurd (h refl) }
+      go true true false false = record { number = unfold lowest in refl; alone = λ _. refl }
+
+  label : (s : List ℕ) (n : ℕ) → RefusesBy (labelRules t caps notes s n) (labelling t caps notes s n)
+  unfolding rising
+  label s n = refuses (labelling t caps notes s n) (labelRules t caps notes s n) (label-by s n) refl (λ _. refl)
+
+  label-place : (s : List ℕ) (n : ℕ) → RefusesBy (labelRules t caps notes s n) (labellingPlace t caps notes s n)
+  unfolding rising labelled
+  label-place s n = refuses (labellingPlace t caps notes s n) (labelRules t caps notes s n)
+      (record { number = label-by s n .number; alone = λ h. ap (λ (f : Found). placed f (annotationAt notes n .label)) (label-by s n .alone h) }) refl (λ _. refl)
 
   module _ (a b : ℕ) where
-    pub pieces-alone : (room : ℕ) → NumberAlone counts (piecesAnswer t caps notes a b room)
-    unfolding piecesAnswer
-    pieces-alone room =
-        stage counts (λ n. refl) (wellFormed t caps notes) _ 18
-        (λ _. stage counts (λ n. refl) (inside t a b) _ 19 (λ _. stage counts (λ n. refl) (leb (pieceWidth * length (piecesIn t caps a b)) room) _ 20 (λ _. accepted counts _ refl)))
-
-    pub pieces-keeps : (m : List ℕ) → Keeps (piecesAnswer t caps notes a b (length m) .refusal) m (piecesMemory t caps notes a b m)
-    pieces-keeps m h = keeps _ _ _ h
+    pieces : (m : List ℕ) → RefusesBy (piecesRules t caps notes a b m) (piecing t caps notes a b m)
+    unfolding piecesAnswer rising
+    pieces m = refuses (piecing t caps notes a b m) (piecesRules t caps notes a b m)
+        (stage counts (λ n. refl) well _ refl _ 18 _
+        (λ _. stage counts (λ n. refl) (inside t a b) _ refl _ 19 _
+        (λ _. stage counts (λ n. refl) (leb (pieceWidth * length (piecesIn t caps a b)) (length m)) _ refl _ 20 [] (λ _. accepted counts _ refl))))
+        refl (λ h. one-kept (kept _ _ _ h))
 
     cut-zero : wellFormed t caps notes ≡ true → cutIn t caps notes a b .summary .refusal ≡ 0
     unfolding cut cutSummary
     cut-zero e = formed t caps notes e .nums .said
 
-    pub cut-alone : (x y : ℕ) → NumberAlone summaries (cutAnswer t caps notes a b x y)
-    unfolding cutAnswer
-    cut-alone x y =
-        let room = leb (captureWidth * length (cutIn t caps notes a b .captures)) x && leb (annotationWidth * length (cutIn t caps notes a b .annotations)) y in
-        stage summaries (λ n. refl) (wellFormed t caps notes) _ 18
-        (λ e. stage summaries (λ n. refl) (inside t a b) _ 19 (λ _. stage summaries (λ n. refl) room _ 20 (λ _. accepted summaries _ (cut-zero e))))
+    cuts : (m k : List ℕ) → RefusesBy (cutRules t caps notes a b m k) (cutting t caps notes a b m k)
+    unfolding cutAnswer rising
+    cuts m k =
+        let x = leb (captureWidth * length (cutIn t caps notes a b .captures)) (length m) in
+        let y = leb (annotationWidth * length (cutIn t caps notes a b .annotations)) (length k) in
+        refuses (cutting t caps notes a b m k) (cutRules t caps notes a b m k)
+        (stage summaries (λ n. refl) well _ refl _ 18 _
+        (λ e. stage summaries (λ n. refl) (inside t a b) _ refl _ 19 _ (λ _. stage summaries (λ n. refl) (x && y) _ (either x y) _ 20 [] (λ _. accepted summaries _ (cut-zero e)))))
+        refl (λ h. both-kept (kept _ _ _ h) (kept _ _ _ h))
 
-    module _ (m k : List ℕ) where
-      pub cut-keeps-captures : Keeps (cutAnswer t caps notes a b (length m) (length k) .refusal) m (cutCaptureMemory t caps notes a b m k)
-      cut-keeps-captures h = keeps _ _ _ h
+    copy : (d m : List ℕ) → RefusesBy (copyRules t caps notes d a b m) (copying t caps notes d a b m)
+    unfolding copyAnswer rising
+    copy d m = refuses (copying t caps notes d a b m) (copyRules t caps notes d a b m)
+        (stage counts (λ n. refl) (well && eqb (length d) (t .size)) _ (either well _) _ 18 _
+        (λ _. stage counts (λ n. refl) (inside t a b) _ refl _ 19 _ (λ _. stage counts (λ n. refl) (leb (length (bytesIn t caps d a b)) (length m)) _ refl _ 20 [] (λ _. accepted counts _ refl))))
+        refl (λ h. one-kept (kept _ _ _ h))
 
-      pub cut-keeps-annotations : Keeps (cutAnswer t caps notes a b (length m) (length k) .refusal) k (cutAnnotationMemory t caps notes a b m k)
-      cut-keeps-annotations h = keeps _ _ _ h
+  list : (s m : List ℕ) → RefusesBy (listingRules t caps notes s m) (listing t caps notes s m)
+  unfolding listingAnswer rising
+  list s m = refuses (listing t caps notes s m) (listingRules t caps notes s m)
+      (stage listings (λ n. refl) (well && labelsOk s (annotationsOf t notes)) _ (either well _) _ 18 _
+      (λ _. stage listings (λ n. refl) (leb (length (listingOf t caps notes s)) (length m)) _ refl _ 20 [] (λ _. accepted listings _ refl)))
+      refl (λ h. one-kept (kept _ _ _ h))
 
-    module _ (d : List ℕ) where
-      pub copy-alone : (room : ℕ) → NumberAlone counts (copyAnswer t caps notes d a b room)
-      unfolding copyAnswer
-      copy-alone room =
-          stage counts (λ n. refl) (wellFormed t caps notes && eqb (length d) (t .size)) _ 18
-          (λ _. stage counts (λ n. refl) (inside t a b) _ 19 (λ _. stage counts (λ n. refl) (leb (length (bytesIn t caps d a b)) room) _ 20 (λ _. accepted counts _ refl)))
+  of-table : OfTable t caps notes
+  of-table = record {
+    locate = locate;
+    label = label;
+    labelPlace = label-place;
+    pieces = pieces;
+    cut = cuts;
+    copy = λ d a b m. copy a b d m;
+    list = list;
+  }
 
-      pub copy-keeps : (m : List ℕ) → Keeps (copyAnswer t caps notes d a b (length m) .refusal) m (copyMemory t caps notes d a b m)
-      copy-keeps m h = keeps _ _ _ h
-
-  module _ (s : List ℕ) where
-    label-of : (r : Annotation) → NumberAlone labels (labelOf s r)
-    unfolding labelOf
-    label-of r = go (absent (r .label) (r .labellen))
-      where
-        go : (b : Bool) → NumberAlone labels (cond b none (cond (stands s (r .label) (r .labellen)) (found (part s (r .label) (r .labellen))) (notFound 18)))
-        go true = accepted labels none refl
-        go false = stage labels (λ n. refl) (stands s (r .label) (r .labellen)) (found (part s (r .label) (r .labellen))) 18 (λ _. accepted labels _ refl)
-
-    pub label-alone : (n : ℕ) → NumberAlone labels (labelAnswer t caps notes s n)
-    unfolding labelAnswer
-    label-alone n =
-        stage labels (λ n. refl) (wellFormed t caps notes) _ 18 (λ _. stage labels (λ n. refl) (ltb n (t .annotations)) _ 19 (λ _. label-of (annotationAt notes n)))
-
-    pub listing-alone : (room : ℕ) → NumberAlone listings (listingAnswer t caps notes s room)
-    unfolding listingAnswer
-    listing-alone room =
-        stage listings (λ n. refl) (wellFormed t caps notes && labelsOk s (annotationsOf t notes)) _ 18 (λ _. stage listings (λ n. refl) (leb (length (listingOf t caps notes s)) room) _ 20 (λ _. accepted listings _ refl))
-
-    pub listing-keeps : (m : List ℕ) → Keeps (listingAnswer t caps notes s (length m) .refusal) m (listingMemory t caps notes s m)
-    listing-keeps m h = keeps _ _ _ h
+pub demand-1 : Demand1
+demand-1 = record { judgeText = judge-text; judge = judge; read = read; summary = lay-summary; lay = lay; table = of-table }

@@ -1,201 +1,322 @@
 -- Demand 2 holds of the reader's answers.
-use Prim.Native.Nat.{ℕ, zero, suc, _+_, _-_, _*_, _<_}
-use mathlib.Core.Path.{_≡_, refl, sym, ap, _∙_}
-use mathlib.Core.Bool.{Bool, true, false, cond}
-use mathlib.Core.List.{List, [], _∷_}
+use Prim.Native.Nat.{ℕ, zero, suc, _+_, _-_, _≤_, _<_}
+use mathlib.Core.Path.{_≡_, refl, sym, ap, subst, _∙_}
+use mathlib.Core.Bool.{Bool, true, false, cond, false≢true}
+use mathlib.Core.List.{List, [], _∷_, _++_, append-nil}
+use mathlib.Core.Option.{Option, none, some}
 use native.Mathlib.Omega.{arith}
-use native.Mathlib.Nat.{zero-add}
-use lib.ListN.{length, getD, take, length-map, List·getD-map}
-use lib.Dec.{eqb, ltb}
-use borrow.Author.Tests.{ltb-true, ltb-false, lt-ltb, le-ltb}
-use Rattle.refusals.specs.Refusals.{lowest}
+use lib.ListN.{length, getD, take, drop, length-append, length-map, List·getD-map}
+use lib.Seq.{take-at}
+use lib.Dec.{ltb, eqb}
+use borrow.Author.Tests.{ne-eqb, eqb-true, eqb-false}
+use Rattle.limits.specs.Limits.{nesting}
+use Rattle.grammar.specs.Grammar.{Text}
+use Rattle.grammar.specs.Reading.{isJson}
+use Rattle.grammar.specs.Stands.{Stands}
+use Rattle.grammar.proofs.Stands.{stands-tail, stands-left}
+use Rattle.grammar.proofs.Theorem.{json-is-grammar}
+use Rattle.decode.specs.Meaning.{Means}
+use Rattle.decode.proofs.TextUtf8.{text-utf8}
+use Rattle.fields.specs.declared.FieldType.the-variants as T
+use Rattle.refusals.specs.Refusals.{Rule, rule, lowest, ByRules}
+use Rattle.refusals.proofs.RuleLaws.{rising, Agree, over, step, lowest-by, skip, stop, never}
 use Rattle.table.specs.declared.Capture.{Capture}
 use Rattle.table.specs.declared.Annotation.{Annotation}
 use Rattle.table.specs.declared.Summary.{Summary}
-use Rattle.table.specs.Rows.{captureAt, annotationAt, rowsFrom, rest, capturesOf, annotationsOf}
+use Rattle.table.specs.Memory.{written}
+use Rattle.table.specs.Rows.{captureNumbers, annotationNumbers, captureAt, annotationAt, rowsFrom, rest, flat, capturesOf, annotationsOf}
+use Rattle.table.specs.Table.{refused}
 use Rattle.layout.specs.declared.CaptureEntry.{CaptureEntry}
-use Rattle.layout.specs.Layout.{headers, widthIn, endIndex, nextStart, captureRows, summaryIn, capturesIn, annotationsIn, annotationRow}
-use Rattle.layout.specs.Claim.{LaidOut}
-use Rattle.objects.specs.Fields.{valueFrom}
-use Rattle.objects.specs.Capture.{captureIn}
-use Rattle.objects.specs.Annotation.{annotationIn}
-use Rattle.recording.specs.File.{elementsIn, named, fileOf, contentsOf}
-use Rattle.recording.specs.Reading.{rulesOf, readRules, contents, judgement, readRefusal, readAnswer, capturesRead, annotationsRead}
-use Rattle.claims.specs.Demand2.{allRules, noneHolds, Smallest, captureSaid, captureRow, TableOf, Demand2}
-use Rattle.claims.specs.Demand2.{annotationRow as noteRow}
-use Rattle.claims.proofs.RuleLaws.{rising, accepts-none, smallest}
-use Rattle.claims.proofs.Demand1.{or-number, read-number}
-use Rattle.claims.proofs.Accepted.{answer-same, captures-same, annotations-same, accepted-laid}
+use Rattle.layout.specs.Layout.{Contents, endIndex, tooMany, summaryIn, capturesIn, annotationsIn, annotationRow}
+use Rattle.recording.specs.Reading as L
+use Rattle.recording.specs.Reading.{badLength, notJson, readRules, contents, judgement, readRefusal, readAnswer, capturesRead, annotationsRead}
+use Rattle.labels.specs.Text.{part}
+use Rattle.accepted.proofs.Accepted.{read-number, judged-number, summary-is, captures-are, annotations-are, captures-written, annotations-written}
+use Rattle.accepted.proofs.RowLaws.{rest-row, noEntry, noRow, rowWith, capture-row, annotation-row}
+use Rattle.derived.specs.Derived.{Node, Here, kind, top}
+use Rattle.derived.specs.Rules.{given, textIn, valueFrom, value, misshapen, captureIn, annotationIn, contentsIn, rulesBy, rulesOf, fileOf, contentsOf}
+use Rattle.derived.proofs.Shape.{Found}
+use Rattle.derived.proofs.FieldRules.{Typed}
+use Rattle.derived.proofs.Agrees.{badTypes, contents-same, read-with, passed-both}
+use Rattle.derived.proofs.Texts.{Quoted, quoted, text-quoted, number-bytes, label-at, rate-typed, rate-found}
+use Rattle.claims.specs.Demand2.{Numbered, allRules, LabelAt, no-label, label, RateAt, no-rate, rate, SummaryBy, capture, annotation, captureRow, RowsBy, ReadBy, Demand2}
 
--- ---- accepted exactly when no condition holds; refused with the smallest number whose condition holds
+no-text : (s : List ℕ) → isJson s ≡ false → Text nesting s → ⊥
+no-text s e t = false≢true (sym e ∙ json-is-grammar s .1 t)
+
+-- ---- the number: rules by place with k after them, and those of a derivation with l after them
+module _ (s : List ℕ) (d : ℕ) (k : List Rule) (l : Text nesting s → List Rule)
+    (same : (t : Text nesting s) → misshapen (top t) ≡ false → badTypes (fileOf t) ≡ false → Agree k (l t))
+    (up : (t : Text nesting s) → rising 2 (rulesOf t d ++ l t) ≡ true) where
+  abbrev n : ℕ
+  n = lowest (readRules s d ++ k)
+
+  long : badLength s d ≡ true → n ≡ 1
+  unfolding L.rulesOf
+  long e = stop 1 (badLength s d) _ e
+
+  lost : badLength s d ≡ false → isJson s ≡ false → n ≡ 2
+  unfolding L.rulesOf
+  lost e f = skip 1 (badLength s d) _ e ∙ stop 2 (notJson s) _ (rw f)
+
+  told : badLength s d ≡ false → (t : Text nesting s) → n ≡ lowest (rulesOf t d ++ l t)
+  told b t = read-with t d b k (l t) (same t)
+
+  not-below : badLength s d ≡ false → Text nesting s → (m : ℕ) → 0 < m → m ≤ 2 → n ≡ m → ⊥
+  not-below b t m h g e = never m 2 h g (rulesOf t d ++ l t) (up t) (sym (told b t) ∙ e)
+
+  only-one : n ≡ 1 → badLength s d ≡ true
+  only-one e = go (badLength s d) refl (isJson s) refl where
+    go : (b : Bool) → badLength s d ≡ b → (j : Bool) → isJson s ≡ j → badLength s d ≡ true
+    go true h j q = h
+    go false h true q = absurd (not-below h (json-is-grammar s .0 q) 1 (omega arith) (omega arith) e)
+    go false h false q = absurd (omega (arith, lost h q, e))
+
+  two : badLength s d ≡ false → (Text nesting s → ⊥) → n ≡ 2
+  two h f = go (isJson s) refl where
+    go : (j : Bool) → isJson s ≡ j → n ≡ 2
+    go true q = absurd (f (json-is-grammar s .0 q))
+    go false q = lost h q
+
+  only-two : n ≡ 2 → (badLength s d ≡ false) × (Text nesting s → ⊥)
+  only-two e = go (badLength s d) refl where
+    go : (b : Bool) → badLength s d ≡ b → (badLength s d ≡ false) × (Text nesting s → ⊥)
+    go true h = absurd (omega (arith, long h, e))
+    go false h = (h, λ t. not-below h t 2 (omega arith) (omega arith) e)
+
+  derives : (n ≡ 1 → ⊥) → (n ≡ 2 → ⊥) → Text nesting s
+  derives f g = go (badLength s d) refl (isJson s) refl where
+    go : (b : Bool) → badLength s d ≡ b → (j : Bool) → isJson s ≡ j → Text nesting s
+    go true h j q = absurd (f (long h))
+    go false h true q = json-is-grammar s .0 q
+    go false h false q = absurd (g (lost h q))
+
+  numbered : Numbered s d n (λ t. rulesOf t d ++ l t)
+  numbered = record {
+    one = (only-one, long);
+    two = (only-two, λ p. two (p .0) (p .1));
+    more = λ b t. subst (λ (m : ℕ). ByRules m (rulesOf t d ++ l t)) (sym (told b t)) (lowest-by 2 (rulesOf t d ++ l t) (up t));
+    text = derives;
+  }
+
+  -- 4 and 7 do not hold of what is accepted
+  accepted-both : n ≡ 0 → (t : Text nesting s) → (misshapen (top t) ≡ false) × (badTypes (fileOf t) ≡ false)
+  accepted-both z t = go (badLength s d) refl where
+    go : (b : Bool) → badLength s d ≡ b → (misshapen (top t) ≡ false) × (badTypes (fileOf t) ≡ false)
+    go true h = absurd (omega (arith, long h, z))
+    go false h = passed-both t d (l t) (sym (told h t) ∙ z)
+
+-- ---- labels and the sample rate
+module _ {s : List ℕ} where
+  body-is : (i : ℕ) (cs : List ℕ) → Stands s i (0x22 ∷ (cs ++ (0x22 ∷ []))) (i + length (0x22 ∷ (cs ++ (0x22 ∷ []))))
+      → part s (i + 1) (length (0x22 ∷ (cs ++ (0x22 ∷ []))) - 2) ≡ cs
+  body-is i cs q =
+      let o = stands-left s cs (0x22 ∷ []) (stands-tail s q) in
+      let n : length cs ≡ length (0x22 ∷ (cs ++ (0x22 ∷ []))) - 2 = omega (arith, length-append cs (0x22 ∷ [])) in
+      ap (take (length (0x22 ∷ (cs ++ (0x22 ∷ []))) - 2)) (o .rest) ∙ take-at cs (drop (i + 1 + length cs) s) _ n
+
+  label-of : (n : Node) → Here s n → Quoted (textIn (kind n)) (n .bytes) → LabelAt s (some n) (n .at + 1) (length (n .bytes) - 2)
+  label-of n h q = go (n .bytes) refl h q where
+    go : (x : List ℕ) → n .bytes ≡ x → Stands s (n .at) x (n .at + length x) → Quoted (textIn (kind n)) x → LabelAt s (some n) (n .at + 1) (length (n .bytes) - 2)
+    go x e p (quoted {cs} m) =
+        let c : part s (n .at + 1) (length (n .bytes) - 2) ≡ cs = ap (λ (y : List ℕ). part s (n .at + 1) (length y - 2)) e ∙ body-is (n .at) cs p in
+        label h (e ∙ ap (λ (y : List ℕ). 0x22 ∷ (y ++ (0x22 ∷ []))) (sym c)) (subst (λ (y : List ℕ). Means y (textIn (kind n))) (sym c) m)
+
+  label-is : (v : Option Node) → Found s v → Typed T.Text v → LabelAt s v (given 0 (λ n. n .at + 1) v) (given 0 (λ n. length (n .bytes) - 2) v)
+  label-is none h e = no-label
+  label-is (some n) h e = label-of n h (text-quoted n e)
+
+  rate-is : (v : Option Node) → Found s v → Typed T.Double v → RateAt s v (given 0 (λ n. n .at) v) (given 0 (λ n. length (n .bytes)) v)
+  rate-is none h e = no-rate
+  rate-is (some n) h e = rate h (number-bytes n e)
+
+-- ---- the table, where 4 and 7 do not hold
+module _ {s : List ℕ} (t : Text nesting s) (d : ℕ) (h : misshapen (top t) ≡ false) (ok : badTypes (fileOf t) ≡ false) where
+  same : contents s ≡ contentsOf t
+  same = contents-same t h ok
+
+  summary-by : (r : Summary) → r ≡ summaryIn (contents s) d → SummaryBy t d r
+  unfolding summaryIn contentsIn
+  summary-by r e =
+      let f : r ≡ summaryIn (contentsOf t) d = e ∙ ap (λ (c : Contents). summaryIn c d) same in
+      let v = value "core:sample_rate" (fileOf t .global) in
+      record {
+        numbers = f;
+        captureCount = ap (λ (x : Summary). x .captures) f ∙ length-map (fileOf t .captures) captureIn;
+        annotationCount = ap (λ (x : Summary). x .annotations) f ∙ length-map (fileOf t .annotations) annotationIn;
+        rate = subst (λ (x : Summary). RateAt s v (x .rate) (x .ratelen)) (sym f) (rate-is v (rate-found t h ok) (rate-typed t h ok));
+      }
+
+  said : (i : ℕ) → getD (contentsOf t .captures) i noEntry ≡ captureIn (capture t i)
+  unfolding contentsIn valueFrom
+  said i = List·getD-map captureIn (fileOf t .captures) i []
+
+  row-by : (i : ℕ) → i < length (fileOf t .captures) → getD (capturesIn (contents s) d) i noRow ≡ captureRow t d i
+  unfolding contentsIn
+  row-by i g =
+      ap (λ (c : Contents). getD (capturesIn c d) i noRow) same ∙ capture-row (contentsOf t) d i (omega (arith, g, length-map (fileOf t .captures) captureIn))
+      ∙ rw (said i, said (suc i), length-map (fileOf t .captures) captureIn)
+
+  note-by : (i : ℕ) → getD (annotationsIn (contents s) d) i (annotationRow (endIndex (contents s) d) (annotationIn []))
+      ≡ annotationRow (endIndex (contentsOf t) d) (annotationIn (annotation t i))
+  unfolding contentsIn
+  note-by i =
+      ap (λ (c : Contents). getD (annotationsIn c d) i (annotationRow (endIndex c d) (annotationIn []))) same
+      ∙ annotation-row (contentsOf t) d i (annotationIn []) ∙ ap (annotationRow (endIndex (contentsOf t) d)) (List·getD-map annotationIn (fileOf t .annotations) i [])
+
 module _ (s : List ℕ) (d : ℕ) (caps notes : List ℕ) where
-  in-order : rising 0 (allRules s d caps notes) ≡ true
-  unfolding rising rulesOf
-  in-order = refl
+  abbrev rows-after : List Rule
+  rows-after = rule 20 (tooMany (contents s) caps notes) ∷ []
 
-  is-lowest : readAnswer s d caps notes .refusal ≡ lowest (allRules s d caps notes)
-  is-lowest = read-number s d caps notes ∙ (unfold readRefusal in refl)
+  read-is : readAnswer s d caps notes .refusal ≡ lowest (readRules s d ++ rows-after)
+  read-is = read-number s d caps notes ∙ (unfold readRefusal in refl)
 
-  accepted-exactly : eqb (readAnswer s d caps notes .refusal) 0 ≡ noneHolds (allRules s d caps notes)
-  accepted-exactly = ap (λ (n : ℕ). eqb n 0) is-lowest ∙ accepts-none 0 (allRules s d caps notes) in-order
+  room : (t : Text nesting s) → misshapen (top t) ≡ false → badTypes (fileOf t) ≡ false → Agree rows-after (rule 20 (tooMany (contentsOf t) caps notes) ∷ [])
+  room t h ok = step (ap (λ (c : Contents). tooMany c caps notes) (contents-same t h ok)) (λ _. over)
 
-  refused-smallest : (readAnswer s d caps notes .refusal ≡ 0 → ⊥) → Smallest (readAnswer s d caps notes .refusal) (allRules s d caps notes)
-  refused-smallest h = rw is-lowest (smallest 0 (allRules s d caps notes) in-order (λ z. h (is-lowest ∙ z)))
+  rising-all : (t : Text nesting s) → rising 2 (allRules t d caps notes) ≡ true
+  unfolding rulesBy rising
+  rising-all t = refl
 
--- the same without rows: demand 2 for the judge
+  module _ (z : readAnswer s d caps notes .refusal ≡ 0) (t : Text nesting s) where
+    both : (misshapen (top t) ≡ false) × (badTypes (fileOf t) ≡ false)
+    both = accepted-both s d rows-after (λ t. rule 20 (tooMany (contentsOf t) caps notes) ∷ []) room rising-all (sym read-is ∙ z) t
+
+    summary-read : SummaryBy t d (readAnswer s d caps notes)
+    summary-read = summary-by t d (both .0) (both .1) (readAnswer s d caps notes) (summary-is s d caps notes z)
+
+    note-read : (i : ℕ) → i < readAnswer s d caps notes .annotations
+        → annotationAt (annotationsRead s d caps notes) i ≡ annotationRow (endIndex (contentsOf t) d) (annotationIn (annotation t i))
+    note-read i g =
+        let w : Annotation = annotationRow (endIndex (contents s) d) (annotationIn []) in
+        rest-row (annotationAt (annotationsRead s d caps notes)) w _ i g ∙ ap (λ (rs : List Annotation). getD rs i w) (annotations-are s d caps notes z)
+        ∙ note-by t d (both .0) (both .1) i
+
+    label-read : (i : ℕ) → LabelAt s (value "core:label" (annotation t i)) (annotationIn (annotation t i) .label) (annotationIn (annotation t i) .labellen)
+    label-read i = let p = label-at t (both .0) (both .1) i in label-is (value "core:label" (annotation t i)) (p .0) (p .1)
+
+    rows-read : RowsBy t d (readAnswer s d caps notes) caps notes (capturesRead s d caps notes) (annotationsRead s d caps notes)
+    rows-read = record {
+      captureRows = λ i g. rest-row (captureAt (capturesRead s d caps notes)) noRow (readAnswer s d caps notes .captures) i (omega (arith, g)) ∙ ap (λ (rs : List Capture). getD rs i noRow) (captures-are s d caps notes z)
+          ∙ row-by t d (both .0) (both .1) i (omega (arith, g, summary-read .captureCount));
+      annotationRows = note-read;
+      labels = λ i g. subst (λ (r : Annotation). LabelAt s (value "core:label" (annotation t i)) (r .label) (r .labellen)) (sym (note-read i g)) (label-read i);
+      captureMemory = captures-written s d caps notes z;
+      annotationMemory = annotations-written s d caps notes z;
+    }
+
 module _ (s : List ℕ) (d : ℕ) where
-  judged-order : rising 0 (readRules s d) ≡ true
-  unfolding rising rulesOf
-  judged-order = refl
+  judged-is : judgement s d .refusal ≡ lowest (readRules s d ++ [])
+  judged-is = judged-number s d ∙ ap lowest (sym (append-nil (readRules s d)))
 
-  judged-lowest : judgement s d .refusal ≡ lowest (readRules s d)
-  unfolding judgement
-  judged-lowest = or-number (lowest (readRules s d)) (contents s) d
+  rising-judged : (t : Text nesting s) → rising 2 (rulesOf t d ++ []) ≡ true
+  unfolding rulesBy rising
+  rising-judged t = refl
 
-  pub judged-exactly : eqb (judgement s d .refusal) 0 ≡ noneHolds (readRules s d)
-  judged-exactly = ap (λ (n : ℕ). eqb n 0) judged-lowest ∙ accepts-none 0 (readRules s d) judged-order
+  judged-by : Numbered s d (judgement s d .refusal) (λ t. rulesOf t d)
+  unfolding rulesBy
+  judged-by = rw judged-is (numbered s d [] (λ t. []) (λ t h ok. over) rising-judged)
 
-  pub judged-smallest : (judgement s d .refusal ≡ 0 → ⊥) → Smallest (judgement s d .refusal) (readRules s d)
-  judged-smallest h = rw judged-lowest (smallest 0 (readRules s d) judged-order (λ z. h (judged-lowest ∙ z)))
+  judged-summary : judgement s d .refusal ≡ 0 → (t : Text nesting s) → SummaryBy t d (judgement s d)
+  judged-summary z t =
+      let p = accepted-both s d [] (λ t. []) (λ t h ok. over) rising-judged (sym judged-is ∙ z) t in
+      summary-by t d (p .0) (p .1) (judgement s d) (unfold judgement in rw (sym (judged-number s d) ∙ z))
 
--- ---- each row
--- row k of n rows read from row i on
-rows-at : {A : Type 0} (at : ℕ → A) (z : A) (n i k : ℕ) → k < n → getD (rowsFrom at n i) k z ≡ at (i + k)
+-- ---- the reader's answer
+module _ (s : List ℕ) (d : ℕ) (caps notes : List ℕ) where
+  not-zero : (readAnswer s d caps notes .refusal ≡ 0 → ⊥) → eqb (readRefusal s d caps notes) 0 ≡ false
+  not-zero h = ne-eqb (readRefusal s d caps notes) 0 (λ z. h (read-number s d caps notes ∙ z))
+
+  read-alone : (readAnswer s d caps notes .refusal ≡ 0 → ⊥) → readAnswer s d caps notes ≡ refused (readAnswer s d caps notes .refusal)
+  unfolding readAnswer
+  read-alone h = rw (not-zero h)
+
+  read-keeps : (readAnswer s d caps notes .refusal ≡ 0 → ⊥) → (capturesRead s d caps notes ≡ caps) × (annotationsRead s d caps notes ≡ notes)
+  unfolding capturesRead annotationsRead
+  read-keeps h = (rw (not-zero h), rw (not-zero h))
+
+  read-by : ReadBy s d caps notes (readAnswer s d caps notes) (capturesRead s d caps notes) (annotationsRead s d caps notes)
+  read-by = record {
+    number = subst (λ (n : ℕ). Numbered s d n (λ t. allRules t d caps notes)) (sym (read-is s d caps notes))
+        (numbered s d (rows-after s d caps notes) (λ t. rule 20 (tooMany (contentsOf t) caps notes) ∷ []) (room s d caps notes) (rising-all s d caps notes));
+    summary = summary-read s d caps notes;
+    rows = rows-read s d caps notes;
+    alone = read-alone;
+    keeps = read-keeps;
+  }
+
+-- ---- no other answer
+once-by : (rs : List Rule) (a b : ℕ) → ByRules a rs → ByRules b rs → a ≡ b
+once-by rs a b p q = go (eqb a 0) refl where
+  go : (c : Bool) → eqb a 0 ≡ c → a ≡ b
+  go true e = eqb-true a 0 e ∙ sym (eqb-true b 0 (q .exactly ∙ sym (p .exactly) ∙ e))
+  go false e =
+      let x = p .smallest (eqb-false a 0 e) in
+      let y = q .smallest (eqb-false b 0 (q .exactly ∙ sym (p .exactly) ∙ e)) in
+      omega (arith, x .least b (y .holds), y .least a (x .holds))
+
+module _ (s : List ℕ) (d a b : ℕ) (rules : Text nesting s → List Rule) (p : Numbered s d a rules) (q : Numbered s d b rules) where
+  once-numbered : a ≡ b
+  once-numbered = go (badLength s d) refl (isJson s) refl where
+    go : (c : Bool) → badLength s d ≡ c → (j : Bool) → isJson s ≡ j → a ≡ b
+    go true h j e = p .one .1 h ∙ sym (q .one .1 h)
+    go false h true e = let t = json-is-grammar s .0 e in once-by (rules t) a b (p .more h t) (q .more h t)
+    go false h false e = let f = no-text s e in p .two .1 (h, f) ∙ sym (q .two .1 (h, f))
+
+rows-same : {A : Type 0} (f g : ℕ → A) (n i : ℕ) → ((k : ℕ) → k < i + n → f k ≡ g k) → rowsFrom f n i ≡ rowsFrom g n i
 unfolding rowsFrom
-rows-at at z zero i k h = absurd (omega arith)
-rows-at at z (suc n) i zero h = ap at (omega arith)
-rows-at at z (suc n) i (suc k) h = rows-at at z n (suc i) k (omega arith) ∙ ap at (omega arith)
+rows-same f g zero i h = refl
+rows-same f g (suc n) i h = rw (h i (omega arith), rows-same f g n (suc i) (λ k l. h k (omega arith)))
 
-rest-row : {A : Type 0} (at : ℕ → A) (z : A) (n k : ℕ) → k < n → at k ≡ getD (rest at n 0) k z
-rest-row at z n k h =
-    let e : n - 0 ≡ n = omega arith in
-    let f : 0 + k ≡ k = omega arith in
-    rw e (sym (rows-at at z n 0 k h ∙ ap at f))
+all-same : {A : Type 0} (f g : ℕ → A) (n : ℕ) → ((k : ℕ) → k < n → f k ≡ g k) → rest f n 0 ≡ rest g n 0
+all-same f g n h = rows-same f g (n - 0) 0 (λ k l. h k (omega arith))
 
--- past the end of a list
-abbrev noEntry : CaptureEntry
-noEntry = record { start = 0; header = 0 }
+module _ (s : List ℕ) (d : ℕ) (caps notes : List ℕ) (r u : Summary) (m k w x : List ℕ) (p : ReadBy s d caps notes r m k) (q : ReadBy s d caps notes u w x) where
+  once-number : r .refusal ≡ u .refusal
+  once-number = once-numbered s d (r .refusal) (u .refusal) (λ t. allRules t d caps notes) (p .number) (q .number)
 
-abbrev noRow : Capture
-noRow = record { start = 0; end = 0; first = 0; header = 0 }
+  module _ (z : r .refusal ≡ 0) where
+    y : u .refusal ≡ 0
+    y = sym once-number ∙ z
 
-ltb-suc : (a b : ℕ) → ltb (suc a) (suc b) ≡ ltb a b
-ltb-suc a b = go (ltb a b) refl
-  where
-    go : (t : Bool) → ltb a b ≡ t → ltb (suc a) (suc b) ≡ t
-    go true q = lt-ltb (suc a) (suc b) (omega (arith, ltb-true a b q))
-    go false q = le-ltb (suc a) (suc b) (omega (arith, ltb-false a b q))
+    t : Text nesting s
+    t = p .number .text (λ e. omega (arith, e, z)) (λ e. omega (arith, e, z))
 
-module _ (o w e : ℕ) where
-  starts : (h : ℕ) (cs : List CaptureEntry) (k : ℕ) → k < length cs → getD (captureRows o w e h cs) k noRow .start ≡ getD cs k noEntry .start
-  unfolding captureRows
-  starts h [] k l = absurd (omega arith)
-  starts h (c ∷ t) zero l = refl
-  starts h (c ∷ t) (suc k) l = starts (h + c .header) t k (omega arith)
+    accepted-once : r ≡ u
+    accepted-once = p .summary z t .numbers ∙ sym (q .summary y t .numbers)
 
-  hdrs : (h : ℕ) (cs : List CaptureEntry) (k : ℕ) → k < length cs → getD (captureRows o w e h cs) k noRow .header ≡ getD cs k noEntry .header
-  unfolding captureRows
-  hdrs h [] k l = absurd (omega arith)
-  hdrs h (c ∷ t) zero l = refl
-  hdrs h (c ∷ t) (suc k) l = hdrs (h + c .header) t k (omega arith)
+    captures-once : m ≡ w
+    captures-once =
+        p .rows z t .captureMemory
+        ∙ ap (λ (l : List Capture). written (flat captureNumbers l) caps)
+        (all-same (captureAt m) (captureAt w) (r .captures) (λ i l. p .rows z t .captureRows i (omega (arith, l)) ∙ sym (q .rows y t .captureRows i (omega (arith, l, ap (λ (v : Summary). v .captures) accepted-once))))
+        ∙ ap (λ (v : Summary). capturesOf v w) accepted-once)
+        ∙ sym (q .rows y t .captureMemory)
 
-  next-is : (t : List CaptureEntry) → nextStart e t ≡ cond (ltb 0 (length t)) (getD t 0 noEntry .start) e
-  unfolding nextStart
-  next-is [] = refl
-  next-is (c ∷ t) = rw (lt-ltb 0 (length (c ∷ t)) (omega arith))
+    annotations-once : k ≡ x
+    annotations-once =
+        p .rows z t .annotationMemory
+        ∙ ap (λ (l : List Annotation). written (flat annotationNumbers l) notes)
+        (all-same (annotationAt k) (annotationAt x) (r .annotations) (λ i l. p .rows z t .annotationRows i (omega (arith, l)) ∙ sym (q .rows y t .annotationRows i (omega (arith, l, ap (λ (v : Summary). v .annotations) accepted-once))))
+        ∙ ap (λ (v : Summary). annotationsOf v x) accepted-once)
+        ∙ sym (q .rows y t .annotationMemory)
 
-  ends : (h : ℕ) (cs : List CaptureEntry) (k : ℕ) → k < length cs
-      → getD (captureRows o w e h cs) k noRow .end ≡ cond (ltb (suc k) (length cs)) (getD cs (suc k) noEntry .start) e
-  unfolding captureRows
-  ends h [] k l = absurd (omega arith)
-  ends h (c ∷ t) zero l = next-is t ∙ ap (λ (b : Bool). cond b (getD t 0 noEntry .start) e) (sym (ltb-suc 0 (length t)))
-  ends h (c ∷ t) (suc k) l = ends (h + c .header) t k (omega arith) ∙ ap (λ (b : Bool). cond b (getD t (suc k) noEntry .start) e) (sym (ltb-suc (suc k) (length t)))
-
-  firsts : (h : ℕ) (cs : List CaptureEntry) (k : ℕ) → k < length cs
-      → getD (captureRows o w e h cs) k noRow .first ≡ (getD cs k noEntry .start - o) * w + (h + headers (take (suc k) cs))
-  unfolding captureRows headers
-  firsts h [] k l = absurd (omega arith)
-  firsts h (c ∷ t) zero l = ap (λ (n : ℕ). (c .start - o) * w + (h + n)) (omega arith)
-  firsts h (c ∷ t) (suc k) l = firsts (h + c .header) t k (omega arith) ∙ ap (λ (n : ℕ). (getD t k noEntry .start - o) * w + n) (omega arith)
-
-module _ (s : List ℕ) (d : ℕ) where
-  -- what element k says
-  said : (k : ℕ) → getD (contents s .captures) k noEntry ≡ captureSaid s k
-  unfolding contentsOf valueFrom
-  said k = List·getD-map captureIn (fileOf s .captures) k []
-
-  capture-row : (k : ℕ) → k < length (contents s .captures) → getD (capturesIn (contents s) d) k noRow ≡ captureRow s d (length (contents s .captures)) k
-  capture-row k l = λ i. record {
-    start = (starts O W E 0 cs k l ∙ ap (λ (c : CaptureEntry). c .start) (said k)) i;
-    end = (ends O W E 0 cs k l ∙ ap (λ (c : CaptureEntry). cond (ltb (suc k) (length cs)) (c .start) E) (said (suc k))) i;
-    first = (firsts O W E 0 cs k l ∙ ap (λ (c : CaptureEntry). (c .start - O) * W + (0 + headers (take (suc k) cs))) (said k)
-        ∙ ap (λ (n : ℕ). (captureSaid s k .start - O) * W + n) (zero-add (headers (take (suc k) cs)))) i;
-    header = (hdrs O W E 0 cs k l ∙ ap (λ (c : CaptureEntry). c .header) (said k)) i;
-  }
-    where
-      cs : List CaptureEntry
-      cs = contents s .captures
-
-      O : ℕ
-      O = contents s .globals .offset
-
-      W : ℕ
-      W = widthIn (contents s .globals)
-
-      E : ℕ
-      E = endIndex (contents s) d
-
-  abbrev noNote : Annotation
-  noNote = annotationRow (endIndex (contents s) d) (annotationIn [])
-
-  annotation-row : (k : ℕ) → getD (annotationsIn (contents s) d) k noNote ≡ noteRow s d k
-  unfolding contentsOf
-  annotation-row k =
-      List·getD-map (annotationRow (endIndex (contents s) d)) (contents s .annotations) k (annotationIn [])
-      ∙ ap (annotationRow (endIndex (contents s) d)) (List·getD-map annotationIn (fileOf s .annotations) k [])
-
-  capture-count : length (contents s .captures) ≡ length (elementsIn s (named "captures" s))
-  unfolding contentsOf fileOf
-  capture-count = length-map (fileOf s .captures) captureIn ∙ length-map (elementsIn s (named "captures" s)) _
-
-  annotation-count : length (contents s .annotations) ≡ length (elementsIn s (named "annotations" s))
-  unfolding contentsOf fileOf
-  annotation-count = length-map (fileOf s .annotations) annotationIn ∙ length-map (elementsIn s (named "annotations" s)) _
-
--- the table
-module _ (s : List ℕ) (d : ℕ) (caps notes : List ℕ) (z : readAnswer s d caps notes .refusal ≡ 0) where
-  L : LaidOut (contents s) d caps notes
-  L = accepted-laid s d caps notes z
-
-  pub summary-is : readAnswer s d caps notes ≡ summaryIn (contents s) d
-  summary-is = sym (answer-same s d caps notes z) ∙ L .answer
-
-  captures-are : capturesOf (readAnswer s d caps notes) (capturesRead s d caps notes) ≡ capturesIn (contents s) d
-  captures-are = rw (← answer-same s d caps notes z, ← captures-same s d caps notes z) (L .captureRows)
-
-  annotations-are : annotationsOf (readAnswer s d caps notes) (annotationsRead s d caps notes) ≡ annotationsIn (contents s) d
-  annotations-are = rw (← answer-same s d caps notes z, ← annotations-same s d caps notes z) (L .annotationRows)
-
-  captures-many : readAnswer s d caps notes .captures ≡ length (contents s .captures)
-  unfolding summaryIn
-  captures-many = ap (λ (x : Summary). x .captures) summary-is
-
-  annotations-many : readAnswer s d caps notes .annotations ≡ length (contents s .annotations)
-  unfolding summaryIn
-  annotations-many = ap (λ (x : Summary). x .annotations) summary-is
-
-  accepted-table : TableOf s d (readAnswer s d caps notes) (capturesRead s d caps notes) (annotationsRead s d caps notes)
-  accepted-table = record {
-    summary = summary-is;
-    captureRows = captures-are;
-    annotationRows = annotations-are;
-    captureCount = captures-many ∙ capture-count s d;
-    annotationCount = annotations-many ∙ annotation-count s d;
-    capture = λ k l. rest-row (captureAt (capturesRead s d caps notes)) noRow _ k l ∙ ap (λ (rs : List Capture). getD rs k noRow) captures-are
-        ∙ capture-row s d k (omega (arith, l, captures-many)) ∙ ap (λ (n : ℕ). captureRow s d n k) (sym captures-many);
-    annotation = λ k l. rest-row (annotationAt (annotationsRead s d caps notes)) (noNote s d) _ k l ∙ ap (λ (rs : List Annotation). getD rs k (noNote s d)) annotations-are ∙ annotation-row s d k;
-  }
+  once : (r ≡ u) × (m ≡ w) × (k ≡ x)
+  once = go (eqb (r .refusal) 0) refl where
+    go : (c : Bool) → eqb (r .refusal) 0 ≡ c → (r ≡ u) × (m ≡ w) × (k ≡ x)
+    go true e = let z = eqb-true (r .refusal) 0 e in (accepted-once z, captures-once z, annotations-once z)
+    go false e =
+        let f = eqb-false (r .refusal) 0 e in
+        let g = p .keeps f in
+        let h = q .keeps (λ z. f (once-number ∙ z)) in
+        (p .alone f ∙ ap refused once-number ∙ sym (q .alone (λ z. f (once-number ∙ z))), g .0 ∙ sym (h .0), g .1 ∙ sym (h .1))
 
 -- demand 2
 pub demand-2 : (s : List ℕ) (d : ℕ) (caps notes : List ℕ) → Demand2 s d caps notes
-demand-2 s d caps notes = record { exactly = accepted-exactly s d caps notes; smallest = refused-smallest s d caps notes; table = accepted-table s d caps notes }
+demand-2 s d caps notes = record {
+  read = read-by s d caps notes;
+  only = λ r m k p. once s d caps notes r _ m k _ _ p (read-by s d caps notes);
+  judged = judged-by s d;
+  judgedSummary = judged-summary s d;
+  utf8 = text-utf8;
+}

@@ -1,9 +1,7 @@
 pub mod Computing
-pub mod RuleLaws
-pub mod ValueLaws
 pub mod Demand1
-pub mod Accepted
 pub mod Demand2
 pub mod Demand3
+pub mod StepExamples
 pub mod Marked
 pub mod Listed

@@ -1,221 +1,216 @@
--- The listing of an accepted recording is never refused with 18: each present label is a string that was read.
+-- The listing of an accepted recording: each present label stands between quotes, so that none is refused with 18, and what is read back off
+-- the lent output is what the metadata say.
 use Prim.Native.Nat.{ℕ, zero, suc, _+_, _-_, _≤_, _<_}
 use mathlib.Core.Path.{_≡_, refl, sym, ap, subst, _∙_}
-use mathlib.Core.Bool.{Bool, true, false, cond, _&&_, _||_}
-use mathlib.Core.List.{List, [], _∷_, map}
+use mathlib.Core.Bool.{Bool, true, false, cond}
+use mathlib.Core.List.{List, [], _∷_, _++_, map, append-assoc}
 use mathlib.Core.Option.{Option, none, some}
 use native.Mathlib.Omega.{arith}
-use lib.ListN.{length, drop, take, length-append}
+use lib.ListN.{length, getD, drop, take, length-take, length-drop}
 use lib.Seq.{take-at}
-use lib.Dec.{eqb}
-use borrow.Author.Tests.{le-leb, eq-eqb, ne-eqb, eqb-true, eqb-false, not-false}
-use Rattle.tokens.specs.Text.{byte, ascii, to, skipBlanks}
-use Rattle.tokens.specs.Lists.{any}
-use Rattle.tokens.specs.declared.Read.{Read}
-use Rattle.grammar.specs.Grammar.{String, string, Value as Derives}
-use Rattle.grammar.specs.Reading.{anyValueAt, valueAt}
-use Rattle.grammar.proofs.Stands.{Stands, stands-head, stands-tail, stands-left, stands-right}
-use Rattle.grammar.proofs.Derived.{Derived, derived, Got, got-is}
-use Rattle.grammar.proofs.Strings.{string-sound}
-use Rattle.grammar.proofs.Values.{value-sound}
-use Rattle.decode.specs.Decode.{isBody}
-use Rattle.decode.specs.Same.{same}
-use Rattle.decode.proofs.Theorem.{body-is-characters}
-use Rattle.members.specs.declared.Member.{Member}
-use Rattle.members.specs.declared.Element.{Element}
-use Rattle.members.specs.declared.MemberStep.{MemberStep}
-use Rattle.members.specs.declared.MemberStep.the-variants as M
-use Rattle.members.specs.Members.{nextItem, memberStep, memberFound, membersFrom, membersAt, elementsFrom, elementsAt}
-use Rattle.members.proofs.StepLaws.{member-steps}
-use Rattle.members.proofs.EndLaws.{members-found, members-over}
-use Rattle.members.proofs.ReadLaws.{Members, Elements, member-read, members-start, json-read, elements-start, elements-close, element-read}
-use Rattle.fields.specs.Values.{partOf, hasType}
-use Rattle.fields.specs.Names.{globals, captures, annotations, coreAt, typeAt}
-use Rattle.fields.specs.Extensions.{memberName, memberValue}
-use Rattle.table.specs.Rows.{annotationsOf}
-use Rattle.table.proofs.Bools.{and-left, and-right}
-use Rattle.layout.specs.Layout.{annotationsIn, annotationRow, endIndex}
-use Rattle.objects.specs.Fields.{Value, fieldOf, fieldsAt, valueFrom, mistyped, given}
-use Rattle.objects.specs.Annotation.{annotationIn, textPlace, textLength}
-use Rattle.recording.specs.File.{topAt, named, namedFrom, objectsIn, isObject, isListing, allObjects, fileOf, contentsOf}
-use Rattle.recording.specs.Parts.{WasRead}
-use Rattle.recording.specs.Reading.{misshapen, contents, readRefusal, readAnswer, capturesRead, annotationsRead}
+use lib.Dec.{eqb, leb}
+use borrow.Author.Tests.{le-leb, eq-eqb, ne-eqb}
+use Rattle.limits.specs.Limits.{nesting}
+use Rattle.tokens.specs.Text.{byte}
+use Rattle.grammar.specs.Grammar.{Between, Multibyte, row2, row3, row4, row5, row6, row7, row8, row9, Text}
+use Rattle.grammar.specs.Stands.{Stands}
+use Rattle.grammar.proofs.Stands.{stands-head, stands-inside, stands-tail, stands-right}
+use Rattle.decode.specs.Decode.{decodedFrom, isBody}
+use Rattle.decode.specs.Meaning.{Means}
+use Rattle.decode.specs.Utf8.{Utf8, no-text, text, single, several}
+use Rattle.decode.proofs.Theorem.{body-is-characters, means-decoded, means-characters}
+use Rattle.table.specs.declared.Summary.{Summary}
+use Rattle.table.specs.Memory.{written}
+use Rattle.table.specs.Table.{wellFormed}
+use Rattle.table.specs.Rows.{annotationAt, rowsFrom, flat, capturesOf, annotationsOf}
+use Rattle.recording.specs.Reading.{readAnswer, capturesRead, annotationsRead}
 use Rattle.labels.specs.Text.{absent, part, stands, textGood}
-use Rattle.labels.specs.Label.{labelsOk}
-use Rattle.listing.specs.Listing.{listingAnswer}
-use Rattle.lines.proofs.Theorem.{one-line-each}
-use Rattle.claims.specs.Listed.{ListedWhole}
-use Rattle.claims.proofs.RuleLaws.{or-left, or-right, and-true}
-use Rattle.claims.proofs.ValueLaws.{Each, nothing, next, values-hold}
-use Rattle.claims.proofs.Demand1.{read-number}
-use Rattle.claims.proofs.Accepted.{Passed, passes, answer-same, annotations-same, accepted-formed, accepted-laid}
+use Rattle.labels.specs.Label.{labelOk, labelsOk}
+use Rattle.listing.specs.Lines.{recordingLine, captureLine, annotationLine}
+use Rattle.listing.specs.declared.Listed.{Listed}
+use Rattle.listing.specs.Listing.{listed, listingOf, listingAnswer, listingMemory}
+use Rattle.lines.specs.Split.{splitLines}
+use Rattle.lines.specs.Recover.{labelIn, labelText}
+use Rattle.lines.proofs.Theorem.{one-line-each, captures-count, label-recovered}
+use Rattle.accepted.proofs.Tests.{and-true}
+use Rattle.accepted.proofs.ValueLaws.{Each}
+use Rattle.accepted.proofs.ValueLaws as E
+use Rattle.accepted.proofs.Accepted.{accepted-formed}
+use Rattle.derived.specs.Derived.{Node}
+use Rattle.derived.specs.Rules.{value}
+use Rattle.claims.specs.Demand2.{LabelAt, annotation}
+use Rattle.claims.specs.Demand2 as A
+use Rattle.claims.specs.Listed.{LabelBack, no-label, label, allLines, joined, ListedRead}
+use Rattle.claims.proofs.Demand2.{demand-2}
 
--- ---- what was read
-abbrev ReadMember : ℕ → List ℕ → Member → Type 0
-ReadMember d s m = valueAt d s (m .value) ≡ to (m .end)
+-- ---- valid UTF-8 is bytes
+abbrev Bytes : List ℕ → Type 0
+Bytes s = Each (λ b. b < 256) s
 
-abbrev ReadElement : ℕ → List ℕ → Element → Type 0
-ReadElement d s e = valueAt d s (e .at) ≡ to (e .end)
+-- a byte between two others, before bytes
+between : {lo hi b : ℕ} {t : List ℕ} → Between lo hi b → hi ≤ 255 → Bytes t → Bytes (b ∷ t)
+between {lo} {hi} {b} h k r = E.next {x = b} (omega (arith, h .high, k)) r
 
--- each member of an object that was read, and each element of an array that was read, was read
-module _ (d : ℕ) (s : List ℕ) (end : ℕ) where
-  members-each : (n p : ℕ) → length s - p < n → Members d s end p → Each (ReadMember d s) (membersFrom s p)
-  members-each zero p h w = absurd (omega arith)
-  members-each (suc n) p h w = go (memberStep s p) refl (λ j. members-each n j) where
-    go : (x : MemberStep) → memberStep s p ≡ x → ((j : ℕ) → length s - j < n → Members d s end j → Each (ReadMember d s) (membersFrom s j))
-        → Each (ReadMember d s) (membersFrom s p)
-    go (M.Found m j) e k =
-        let o = member-steps s p m j (ap memberFound e) in
-        let r = member-read d s end p w m j e in
-        subst (Each (ReadMember d s)) (sym (members-found s p m j e)) (next (r .value) (k j (omega (arith, o .0, o .1)) (r .rest)))
-    go M.End e k = subst (Each (ReadMember d s)) (sym (members-over s p e)) nothing
+several-bytes : {c t : List ℕ} → Multibyte c → Bytes t → Bytes (c ++ t)
+several-bytes (row2 a b) r = between a (omega arith) (between b (omega arith) r)
+several-bytes (row3 b c) r = E.next {x = 0xE0} (omega arith) (between b (omega arith) (between c (omega arith) r))
+several-bytes (row4 a b c) r = between a (omega arith) (between b (omega arith) (between c (omega arith) r))
+several-bytes (row5 b c) r = E.next {x = 0xED} (omega arith) (between b (omega arith) (between c (omega arith) r))
+several-bytes (row6 a b c) r = between a (omega arith) (between b (omega arith) (between c (omega arith) r))
+several-bytes (row7 b c d) r = E.next {x = 0xF0} (omega arith) (between b (omega arith) (between c (omega arith) (between d (omega arith) r)))
+several-bytes (row8 a b c d) r = between a (omega arith) (between b (omega arith) (between c (omega arith) (between d (omega arith) r)))
+several-bytes (row9 b c d) r = E.next {x = 0xF4} (omega arith) (between b (omega arith) (between c (omega arith) (between d (omega arith) r)))
 
-  elements-each : (n p : ℕ) → length s - p < n → Elements d s end p → Each (ReadElement d s) (elementsFrom s p)
-  elements-each zero p h w = absurd (omega arith)
-  elements-each (suc n) p h w = go (eqb (byte s p) 0x5D) refl (λ j. elements-each n j) where
-    go : (t : Bool) → eqb (byte s p) 0x5D ≡ t → ((j : ℕ) → length s - j < n → Elements d s end j → Each (ReadElement d s) (elementsFrom s j))
-        → Each (ReadElement d s) (elementsFrom s p)
-    go true q k = subst (Each (ReadElement d s)) (sym (elements-close s p (eqb-true _ _ q))) nothing
-    go false q k =
-        let r = element-read d s end p w (eqb-false _ _ q) in
-        subst (Each (ReadElement d s)) (sym (r .1 .found))
-        (next (r .1 .value) (k (nextItem s (r .0)) (omega (arith, r .1 .less, r .1 .inside, r .1 .onward)) (r .1 .rest)))
+utf8-bytes : {s : List ℕ} → Utf8 s → Bytes s
+utf8-bytes no-text = E.nothing
+utf8-bytes (text (single {b} h) r) = E.next {x = b} (omega (arith, h)) (utf8-bytes r)
+utf8-bytes (text (several m) r) = several-bytes m (utf8-bytes r)
 
-module _ (d : ℕ) (s : List ℕ) (i j : ℕ) (e : valueAt (suc d) s i ≡ to j) where
-  object-members : byte s i ≡ 0x7B → Each (ReadMember d s) (membersAt s i)
-  object-members b = members-each d s j (suc (length s)) (skipBlanks s (i + 1)) (omega arith) (members-start d s i j e b)
+byte-low : (s : List ℕ) → Bytes s → (i : ℕ) → byte s i < 256
+byte-low [] E.nothing i = omega arith
+byte-low (b ∷ s) (E.next h r) zero = h
+byte-low (b ∷ s) (E.next h r) (suc i) = byte-low s r i
 
-  array-elements : byte s i ≡ 0x5B → Each (ReadElement d s) (elementsAt s i)
-  array-elements b = elements-each d s j (suc (length s)) (skipBlanks s (i + 1)) (omega arith) (elements-start d s i j e b)
-
--- ---- a value that begins with a quote and was read is a string
-stands-part : {s xs : List ℕ} {i j : ℕ} → Stands s i xs j → partOf s i j ≡ xs
-stands-part {s} {xs} {i} {j} q =
-    let n : length xs ≡ j - i = omega (arith, q .end) in
-    ap (take (j - i)) (q .rest) ∙ take-at xs (drop j s) (j - i) n
-
+-- ---- one label
 text-good : (s : List ℕ) (at len : ℕ) → 1 ≤ at → byte s (at - 1) ≡ 0x22 → byte s (at + len) ≡ 0x22 → isBody (part s at len) ≡ true → textGood s at len ≡ true
 unfolding textGood stands absent
 text-good s at len h a b c = rw (ne-eqb at 0 (λ z. omega arith), le-leb 1 at h, eq-eqb (byte s (at - 1)) 0x22 a, eq-eqb (byte s (at + len)) 0x22 b, c)
 
-string-good : {s : List ℕ} {i j : ℕ} → Derived String s i j → textGood s (i + 1) (length (partOf s i j) - 2) ≡ true
-string-good {s} {i} {j} (derived (string {cs} p) q) =
-    let t = stands-tail s q in
-    let l = stands-left s cs (0x22 ∷ []) t in
-    let r = stands-right s cs (0x22 ∷ []) t in
-    let n : length (partOf s i j) - 2 ≡ length cs = omega (arith, ap length (stands-part q), length-append cs (0x22 ∷ [])) in
-    let z : i + 1 - 1 ≡ i = omega arith in
-    let c : part s (i + 1) (length cs) ≡ cs = ap (take (length cs)) (l .rest) ∙ take-at cs (drop (i + 1 + length cs) s) (length cs) refl in
-    subst (λ (k : ℕ). textGood s (i + 1) k ≡ true) (sym n)
-    (text-good s (i + 1) (length cs) (omega arith) (ap (byte s) z ∙ stands-head s q) (stands-head s r) (ap isBody c ∙ body-is-characters cs .1 p))
+module _ (s : List ℕ) where
+  quoted-good : (i l j : ℕ) (t : List ℕ) → Stands s i (0x22 ∷ (part s (i + 1) l ++ (0x22 ∷ []))) j → Means (part s (i + 1) l) t → textGood s (i + 1) l ≡ true
+  quoted-good i l j t q m =
+      let p = part s (i + 1) l in
+      let r = stands-right s p (0x22 ∷ []) (stands-tail s q) in
+      let n : length p ≡ l = omega (arith, length-take l (drop (i + 1) s), length-drop (i + 1) s, stands-inside s r) in
+      let z : i + 1 - 1 ≡ i = omega arith in
+      text-good s (i + 1) l (omega arith) (ap (byte s) z ∙ stands-head s q) (ap (λ (k : ℕ). byte s (i + 1 + k)) (sym n) ∙ stands-head s r) (body-is-characters p .1 (means-characters m))
 
-first-byte : {s : List ℕ} (xs : List ℕ) {i j : ℕ} → Stands s i xs j → byte xs 0 ≡ 0x22 → byte s i ≡ 0x22
-first-byte [] q e = absurd (omega arith)
-first-byte {s} (b ∷ xs) q e = stands-head s q ∙ e
-
-module _ (d : ℕ) (s : List ℕ) (i j : ℕ) (e : valueAt (suc d) s i ≡ to j) where
-  quoted : byte s i ≡ 0x22 → Derived String s i j
-  unfolding valueAt anyValueAt
-  quoted b = got-is (subst (λ (r : Read). Got (Derived String s i) r) (rw b at e) (string-sound s i b))
-
-  begins : byte (partOf s i j) 0 ≡ 0x22 → byte s i ≡ 0x22
-  begins b = go (value-sound (suc d) s i (record { at = j }) e) where
-    go : Derived (Derives (suc d)) s i j → byte s i ≡ 0x22
-    go (derived {xs} p q) = first-byte xs q (ap (λ (l : List ℕ). byte l 0) (sym (stands-part q)) ∙ b)
-
-  string-stands : byte (partOf s i j) 0 ≡ 0x22 → textGood s (i + 1) (length (partOf s i j) - 2) ≡ true
-  string-stands b = string-good (quoted (begins b))
-
--- ---- the label of an annotation
-abbrev Good : List ℕ → Option Value → Type 0
-Good s v = textGood s (textPlace v) (textLength v) ≡ true
-
-label-text : (p : List ℕ) → hasType (typeAt annotations 3) p ≡ true → byte p 0 ≡ 0x22
-unfolding hasType typeAt coreAt annotations
-label-text p e = eqb-true (byte p 0) 0x22 e
-
-module _ (d : ℕ) (s : List ℕ) where
-  none-good : Good s none
+  label-good : {v : Option Node} {at len : ℕ} → LabelAt s v at len → textGood s at len ≡ true
   unfolding textGood absent
-  none-good = refl
+  label-good A.no-label = refl
+  label-good (A.label {n} {l} h e m) =
+      quoted-good (n .at) l _ _ (subst (λ (x : List ℕ). Stands s (n .at) x (n .at + length (n .bytes))) e h) m
 
-  values-good : (ms : List Member) → Each (ReadMember (suc d) s) ms → mistyped annotations (map (fieldOf s) ms) ≡ false
-      → Good s (valueFrom annotations 3 none (map (fieldOf s) ms))
-  values-good ms r t =
-      values-hold s annotations 3 (Good s) (ReadMember (suc d) s) (λ m r e. string-stands d s (m .value) (m .end) r (label-text (memberValue s m) e)) none ms none-good r t
+  label-back : {v : Option Node} {at len : ℕ} → LabelAt s v at len → LabelBack v (cond (absent at len) none (some (decodedFrom (part s at len) 0)))
+  unfolding absent
+  label-back A.no-label = no-label
+  label-back (A.label {n} {l} h e m) = rw (ne-eqb (n .at + 1) 0 (λ z. omega arith), means-decoded m) (label e m)
 
-  rows-good : (x : ℕ) (es : List Element) → Each (ReadElement (suc (suc d)) s) es → allObjects s es ≡ true
-      → any (mistyped annotations) (map (λ e. fieldsAt s (e .at)) es) ≡ false
-      → labelsOk s (map (annotationRow x) (map annotationIn (map (λ e. fieldsAt s (e .at)) es))) ≡ true
-  unfolding any labelsOk allObjects
-  rows-good x [] nothing o t = refl
-  rows-good x (e ∷ es) (next r rs) o t =
-      let a = mistyped annotations (fieldsAt s (e .at)) in
-      let b = any (mistyped annotations) (map (λ e. fieldsAt s (e .at)) es) in
-      let c = eqb-true (byte s (e .at)) 0x7B (and-left (isObject s (e .at)) (allObjects s es) o) in
-      and-true _ _ (values-good (membersAt s (e .at)) (object-members (suc d) s (e .at) (e .end) r c) (or-left a b t))
-      (rows-good x es rs (and-right (isObject s (e .at)) (allObjects s es) o) (or-right a b t))
+  -- all of them
+  rows-good : (notes : List ℕ) (n i : ℕ) → ((k : ℕ) → k < n → labelOk s (annotationAt notes (i + k)) ≡ true) → labelsOk s (rowsFrom (annotationAt notes) n i) ≡ true
+  unfolding labelsOk rowsFrom
+  rows-good notes zero i f = refl
+  rows-good notes (suc n) i f =
+      let e : i + 0 ≡ i = omega arith in
+      and-true _ _ (subst (λ (k : ℕ). labelOk s (annotationAt notes k) ≡ true) e (f 0 (omega arith)))
+      (rows-good notes n (suc i) (λ k h. subst (λ (j : ℕ). labelOk s (annotationAt notes j) ≡ true) (sum i k) (f (suc k) (omega arith))))
+    where
+      sum : (i k : ℕ) → i + suc k ≡ suc i + k
+      sum i k = omega arith
 
--- ---- the members of the top level
-abbrev ReadValue : ℕ → List ℕ → Option Value → Type 0
-ReadValue d s none = Unit {0}
-ReadValue d s (some v) = WasRead d s (v .at)
+-- ---- lines joined, and the line at a place
+flat-map : {A : Type 0} (f : A → List ℕ) (rs : List A) → flat (λ l. l) (map f rs) ≡ flat f rs
+unfolding flat
+flat-map f [] = refl
+flat-map f (r ∷ rs) = rw (flat-map f rs)
 
-named-read : (d : ℕ) (s n : List ℕ) (z : Option Value) (ms : List Member) → ReadValue d s z → Each (ReadMember d s) ms → ReadValue d s (namedFrom n z (map (fieldOf s) ms))
-unfolding namedFrom
-named-read d s n z [] h nothing = h
-named-read d s n z (m ∷ ms) h (next r rs) = named-read d s n _ ms (go (same (memberName s m) n)) rs where
-  go : (b : Bool) → ReadValue d s (cond b (some (fieldOf s m .value)) z)
-  go true = (m .end, r)
-  go false = h
+flat-join : (a b : List (List ℕ)) → flat (λ l. l) (a ++ b) ≡ flat (λ l. l) a ++ flat (λ l. l) b
+unfolding flat
+flat-join [] b = refl
+flat-join (x ∷ a) b = rw (flat-join a b) (sym (append-assoc x (flat (λ l. l) a) (flat (λ l. l) b)))
 
-listing-good : (d : ℕ) (s : List ℕ) (x : ℕ) (v : Option Value) → ReadValue (suc (suc (suc d))) s v → isListing s v ≡ true
-    → any (mistyped annotations) (objectsIn s v) ≡ false → labelsOk s (map (annotationRow x) (map annotationIn (objectsIn s v))) ≡ true
-unfolding labelsOk
-listing-good d s x none r l t = refl
-listing-good d s x (some v) r l t =
-    let b = eqb-true (byte s (v .at)) 0x5B (and-left _ (allObjects s (elementsAt s (v .at))) l) in
-    rows-good d s x (elementsAt s (v .at)) (array-elements (suc (suc d)) s (v .at) (r .0) (r .1) b) (and-right (eqb (byte s (v .at)) 0x5B) _ l) t
+past : {A : Type 0} (a b : List A) (z : A) (n k : ℕ) → length a ≡ n → getD (a ++ b) (n + k) z ≡ getD b k z
+past [] b z n k e = ap (λ (i : ℕ). getD b i z) (omega (arith, e))
+past (x ∷ a) b z zero k e = absurd (omega (arith, e))
+past (x ∷ a) b z (suc n) k e = subst (λ (i : ℕ). getD (x ∷ a ++ b) i z ≡ getD b k z) (sum n k) (past a b z n k (omega (arith, e)))
+  where
+    sum : (n k : ℕ) → suc (n + k) ≡ suc n + k
+    sum n k = omega arith
+
+rows-at : {A B : Type 0} (f : A → B) (at : ℕ → A) (z : B) (n i k : ℕ) → k < n → getD (map f (rowsFrom at n i)) k z ≡ f (at (i + k))
+unfolding rowsFrom
+rows-at f at z zero i k h = absurd (omega arith)
+rows-at f at z (suc n) i zero h = ap (λ (j : ℕ). f (at j)) (omega arith)
+rows-at f at z (suc n) i (suc k) h = rows-at f at z n (suc i) k (omega arith) ∙ ap (λ (j : ℕ). f (at j)) (omega arith)
+
+module _ (t : Summary) (caps notes s : List ℕ) where
+  joined-is : joined t caps notes s ≡ listingOf t caps notes s
+  unfolding listingOf flat
+  joined-is =
+      flat-join (recordingLine t ∷ map captureLine (capturesOf t caps)) (map (annotationLine s) (annotationsOf t notes))
+      ∙ rw (flat-map captureLine (capturesOf t caps), flat-map (annotationLine s) (annotationsOf t notes))
+
+  joined-lines : splitLines (joined t caps notes s) ≡ allLines t caps notes s
+  joined-lines = ap splitLines joined-is ∙ one-line-each t caps notes s
+
+  -- the line of annotation k
+  line-at : (k : ℕ) → k < t .annotations → getD (allLines t caps notes s) (1 + t .captures + k) [] ≡ annotationLine s (annotationAt notes k)
+  line-at k h =
+      let a = recordingLine t ∷ map captureLine (capturesOf t caps) in
+      past a (map (annotationLine s) (annotationsOf t notes)) [] (1 + t .captures) k (captures-count t caps notes s) ∙ rows-at (annotationLine s) (annotationAt notes) [] (t .annotations - 0) 0 k (omega (arith, h)) ∙ ap (λ (j : ℕ). annotationLine s (annotationAt notes j)) (omega arith)
+
+  -- a listing that is refused for lack of room alone
+  module _ (m : List ℕ) (w : wellFormed t caps notes ≡ true) (l : labelsOk s (annotationsOf t notes) ≡ true) where
+    answer-is : listingAnswer t caps notes s (length m) ≡ cond (leb (length (joined t caps notes s)) (length m)) (listed 0 (length (joined t caps notes s))) (listed 20 0)
+    unfolding listingAnswer
+    answer-is = rw (w, l, joined-is)
+
+    output-is : listingMemory t caps notes s m ≡ cond (leb (length (joined t caps notes s)) (length m)) (written (joined t caps notes s) m) m
+    output-is = rw (answer-is, joined-is) (go (leb (length (listingOf t caps notes s)) (length m)))
+      where
+        go : (b : Bool) → cond (eqb (cond b (listed 0 (length (listingOf t caps notes s))) (listed 20 0) .refusal) 0) (written (listingOf t caps notes s) m) m
+            ≡ cond b (written (listingOf t caps notes s) m) m
+        go true = refl
+        go false = refl
+
+    lines-are : listingAnswer t caps notes s (length m) .refusal ≡ 0
+        → splitLines (take (listingAnswer t caps notes s (length m) .bytes) (listingMemory t caps notes s m)) ≡ allLines t caps notes s
+    lines-are e =
+        let b = leb (length (joined t caps notes s)) (length m) in
+        (λ i. splitLines (take (answer-is i .bytes) (output-is i))) ∙ go b (ap (λ (r : Listed). r .refusal) (sym answer-is) ∙ e)
+      where
+        go : (b : Bool) → cond b (listed 0 (length (joined t caps notes s))) (listed 20 0) .refusal ≡ 0
+            → splitLines (take (cond b (listed 0 (length (joined t caps notes s))) (listed 20 0) .bytes) (cond b (written (joined t caps notes s) m) m)) ≡ allLines t caps notes s
+        go true f = ap splitLines (take-at (joined t caps notes s) (drop (length (joined t caps notes s)) m) _ refl) ∙ joined-lines
+        go false f = absurd (omega (arith, f))
 
 -- ---- of an accepted recording
-module _ (s : List ℕ) (d : ℕ) (caps notes : List ℕ) (z : readRefusal s d caps notes ≡ 0) where
-  accepted : readAnswer s d caps notes .refusal ≡ 0
-  accepted = read-number s d caps notes ∙ z
+module _ (s : List ℕ) (d : ℕ) (caps notes : List ℕ) (z : readAnswer s d caps notes .refusal ≡ 0) where
+  abbrev T : Summary
+  T = readAnswer s d caps notes
 
-  P : Passed s d caps notes
-  P = passes s d caps notes z
+  abbrev C : List ℕ
+  C = capturesRead s d caps notes
 
-  annotations-read : isObject s (topAt s) ≡ true → ReadValue 31 s (named "annotations" s)
-  annotations-read o =
-      let r = json-read s (not-false _ (P .json)) in
-      named-read 31 s (ascii "annotations") none (membersAt s (topAt s)) tt (object-members 31 s (topAt s) (r .0) (r .1) (eqb-true _ _ o))
+  abbrev N : List ℕ
+  N = annotationsRead s d caps notes
 
-  shapes : isObject s (topAt s) && (given false (λ v. isObject s (v .at)) (named "global" s)
-      && (isListing s (named "captures" s) && isListing s (named "annotations" s))) ≡ true
-  unfolding misshapen
-  shapes = not-false _ (P .shape)
+  label-at : (u : Text nesting s) (k : ℕ) → k < T .annotations → LabelAt s (value "core:label" (annotation u k)) (annotationAt N k .label) (annotationAt N k .labellen)
+  label-at u k h = demand-2 s d caps notes .read .rows z u .labels k h
 
-  types : any (mistyped annotations) (fileOf s .annotations) ≡ false
-  types = or-right (mistyped globals (fileOf s .global) || any (mistyped captures) (fileOf s .captures)) (any (mistyped annotations) (fileOf s .annotations)) (P .types)
+  derived : Text nesting s
+  derived = demand-2 s d caps notes .read .number .text (λ e. omega (arith, z, e)) (λ e. omega (arith, z, e))
 
-  rows-stand : labelsOk s (annotationsIn (contents s) d) ≡ true
-  unfolding contentsOf fileOf
-  rows-stand =
-      let o = isObject s (topAt s) in
-      let g = given false (λ v. isObject s (v .at)) (named "global" s) in
-      let c = isListing s (named "captures" s) in
-      let a = isListing s (named "annotations" s) in
-      let r = and-right c a (and-right g (c && a) (and-right o (g && (c && a)) shapes)) in
-      listing-good 28 s (endIndex (contents s) d) (named "annotations" s) (annotations-read (and-left o (g && (c && a)) shapes)) r types
-
-  pub labels-stand : labelsOk s (annotationsOf (readAnswer s d caps notes) (annotationsRead s d caps notes)) ≡ true
+  labels-stand : labelsOk s (annotationsOf T N) ≡ true
   labels-stand =
-      ap (labelsOk s) (rw (← answer-same s d caps notes accepted, ← annotations-same s d caps notes accepted) (accepted-laid s d caps notes accepted .annotationRows))
-      ∙ rows-stand
+      rows-good s N (T .annotations - 0) 0
+      (λ k h. subst (λ (j : ℕ). labelOk s (annotationAt N j) ≡ true) (sum k) (label-good s (label-at derived k (omega (arith, h)))))
+    where
+      sum : (k : ℕ) → k ≡ 0 + k
+      sum k = omega arith
 
-  pub listing-accepted : (room : ℕ) → ListedWhole (readAnswer s d caps notes) (capturesRead s d caps notes) (annotationsRead s d caps notes) s room
-  unfolding listingAnswer
-  listing-accepted room = record {
-    answer = rw (accepted-formed s d caps notes accepted, labels-stand);
-    lines = one-line-each (readAnswer s d caps notes) (capturesRead s d caps notes) (annotationsRead s d caps notes) s;
-  }
+  pub listing-read : (m : List ℕ) → ListedRead s d caps notes m
+  unfolding labelText
+  listing-read m =
+      let w = accepted-formed s d caps notes z in
+      record {
+        answer = answer-is T C N s m w labels-stand;
+        output = output-is T C N s m w labels-stand;
+        lines = lines-are T C N s m w labels-stand;
+        labels = λ e u k h.
+            let b = byte-low s (utf8-bytes (demand-2 s d caps notes .utf8 u)) in
+            let r = annotationAt N k in
+            subst (LabelBack (value "core:label" (annotation u k)))
+            (sym (ap (λ (ls : List (List ℕ)). labelIn (getD ls (1 + T .captures + k) [])) (lines-are T C N s m w labels-stand e) ∙ ap labelIn (line-at T C N s k h) ∙ label-recovered s b r))
+            (label-back s (label-at u k h));
+      }

@@ -1,11 +1,11 @@
 -- The P lines hold of the definitions.
 use Prim.Native.Nat.{ℕ}
-use Prim.Native.String.{String}
 use mathlib.Core.Path.{_≡_, refl, ap, _∙_}
 use mathlib.Core.Bool.{Bool, true, false, cond, _||_}
-use mathlib.Core.List.{List, [], _∷_, _++_}
-use lib.ListN.{length, replicate}
+use mathlib.Core.List.{List, [], _∷_}
+use lib.ListN.{length}
 use lib.Dec.{eqb, ltb}
+use borrow.Author.Tests.{eq-eqb}
 use Rattle.limits.specs.Limits.{metadata, dataset, nesting}
 use Rattle.tokens.specs.Group.{afterItem, colonAt, nameAt}
 use Rattle.tokens.specs.Number.{digitsAt, integerAt, fractionAt, exponentAt, skipMinus, numberAt}
@@ -31,7 +31,7 @@ use Rattle.table.specs.Memory.{written, row}
 use Rattle.table.specs.Rows.{captureNumbers, annotationNumbers, captureAt, annotationAt, rowsFrom, flat}
 use Rattle.table.specs.Table.{refused, nextStart, captureOk, capturesOk, textOk, textsOk, annotationOk, annotationsOk, formatOk, countsOk, sizesOk, rowsOk, wellFormed}
 use Rattle.table.specs.Samples.{headerSum, headersTo, place as placeTable}
-use Rattle.cutting.specs.Cut.{kept, cutSummary, cut}
+use Rattle.cutting.specs.Cut.{kept, cutSummary, cut, cutAnswer}
 use Rattle.cutting.specs.Pieces.{put, runs, inside, piecesAnswer}
 use Rattle.layout.specs.Layout.{Contents, summaryOr, capturesIn, annotationsIn, headers, samplesIn, ascendingFrom, unordered, notWhole, allEntries, allNotes, outside, nextStart as nextStartLayout, captureRows, summaryIn, tooMany}
 use Rattle.layout.proofs.JudgeLaws.{numbered, lowest-then}
@@ -41,7 +41,7 @@ use Rattle.objects.specs.Capture.{badDatetime}
 use Rattle.objects.specs.Global.{otherVersion, otherDatatype, badChannels, badExtension, needsExtension, noDataset}
 use Rattle.recording.specs.File.{File, topAt, namedFrom, allObjects, fileOf, contentsOf}
 use Rattle.recording.specs.Reading.{notJson, badMembers, inFile, contents, badLength, misshapen, rulesOf, readRefusal, readAnswer, capturesRead, annotationsRead}
-use Rattle.claims.specs.Marked.{metadataWith, capturesLent, annotationsLent, answer, captureRows as rowsOfCaptures, annotationRows, gives, pieces, marked, allHold}
+use Rattle.claims.specs.Marked.{metadataWith, withCount, nested, capturesLent, annotationsLent, answer, captureRows as rowsOfCaptures, annotationRows, piecesLent, summaryNumbers, reads, gives, pieces, cuts, ofRecording, marked, allHold}
 use Rattle.claims.proofs.Computing.{strictly, openSteps, valueEnd, nextMember, nextElement, membersOf, elementsOf, badBy, misshapenBy, fileBy, bad-is, misshapen-is, file-is}
 
 -- ---- the rules on what the text says, then those on samples and room
@@ -116,9 +116,23 @@ recording n label = record {
   annotations = record { start = 4; count = C.Given n; label = label; labellen = 29 } ∷ [];
 }
 
-texts : Says (metadataWith "2") (recording 2 219) × Says (metadataWith "21") (recording 21 220) × Says (metadataWith "22") (recording 22 220)
+-- the texts of the P lines
+record Texts : Type 0 where
+  two : Says (withCount "2") (recording 2 219)
+  twentyOne : Says (withCount "21") (recording 21 220)
+  twentyTwo : Says (withCount "22") (recording 22 220)
+  deep : Says (nested 31) (recording 2 219)
+  tooDeep : notJson (nested 32) ≡ true
+
+texts : Texts
 unfolding metadataWith strictly openSteps valueEnd nextMember nextElement membersOf elementsOf badBy misshapenBy fileBy afterItem colonAt nameAt digitsAt integerAt fractionAt exponentAt skipMinus numberAt runTurns run shortEscape escapeAt characterAt stringTurn stringAt within blank skipTurn skipWhile byteWithin itemTurn itemsAt groupAt memberAt anyValueAt valueAt isJson skipStringTurn skipString scalar unitAt utf8 decodedUnits decodedFrom same gatherSteps gather nextItem has repeated badNames any twelve datatypes listed nameByte spaceByte space rest formOk formOf pastSpace place all numberFrom globals captures annotations coreAt typeAt digitsFrom uintOf hasType lowest badDatetime valueFrom misnamed missingFrom mistyped otherVersion otherDatatype badChannels badExtension needsExtension noDataset namedFrom allObjects contentsOf
-texts = (record { long = refl; good = refl; said = refl }, record { long = refl; good = refl; said = refl }, record { long = refl; good = refl; said = refl })
+texts = record {
+  two = record { long = refl; good = refl; said = refl };
+  twentyOne = record { long = refl; good = refl; said = refl };
+  twentyTwo = record { long = refl; good = refl; said = refl };
+  deep = record { long = refl; good = refl; said = refl };
+  tooDeep = refl;
+}
 
 -- n samples and d bytes
 abbrev summary : ℕ → ℕ → Summary
@@ -137,57 +151,92 @@ summary n d = record {
   ratelen = 0;
 }
 
-module _ (count : String) (n label : ℕ) (S : Says (metadataWith count) (recording n label)) (d : ℕ) (small : ltb dataset d ≡ false) where
-  abbrev low : ℕ
-  low = lowest (later (recording n label) d capturesLent annotationsLent)
+-- ---- what is read: the summary and both memories
+record Reads (s : List ℕ) (d : ℕ) (t : Summary) (caps notes : List ℕ) : Type 0 where
+  answered : answer s d ≡ t
+  captured : rowsOfCaptures s d ≡ caps
+  noted : annotationRows s d ≡ notes
 
-  answered : answer count d ≡ summaryOr low (recording n label) d
-  unfolding answer
-  answered = answer-is (metadataWith count) (recording n label) S d small capturesLent annotationsLent
+module _ (s : List ℕ) (d : ℕ) where
+  abbrev readsAs : ℕ → Contents → Type 0
+  readsAs n k =
+      Reads s d (summaryOr n k d) (cond (eqb n 0) (written (flat captureNumbers (capturesIn k d)) capturesLent) capturesLent)
+      (cond (eqb n 0) (written (flat annotationNumbers (annotationsIn k d)) annotationsLent) annotationsLent)
 
-  captures-read : rowsOfCaptures count d ≡ cond (eqb low 0) (written (flat captureNumbers (capturesIn (recording n label) d)) capturesLent) capturesLent
-  unfolding rowsOfCaptures
-  captures-read = captures-are (metadataWith count) (recording n label) S d small capturesLent annotationsLent
+  said : (k : Contents) → Says s k → ltb dataset d ≡ false → readsAs (lowest (later k d capturesLent annotationsLent)) k
+  unfolding answer rowsOfCaptures annotationRows
+  said k S small = record {
+    answered = answer-is s k S d small capturesLent annotationsLent;
+    captured = captures-are s k S d small capturesLent annotationsLent;
+    noted = annotations-are s k S d small capturesLent annotationsLent;
+  }
 
-  annotations-read : annotationRows count d ≡ cond (eqb low 0) (written (flat annotationNumbers (annotationsIn (recording n label) d)) annotationsLent) annotationsLent
-  unfolding annotationRows
-  annotations-read = annotations-are (metadataWith count) (recording n label) S d small capturesLent annotationsLent
+  -- no JSON, of a good length
+  not-json : badLength s d ≡ false → notJson s ≡ true → Reads s d (refused 2) capturesLent annotationsLent
+  unfolding answer rowsOfCaptures annotationRows readAnswer capturesRead annotationsRead
+  not-json e f =
+      let r : readRefusal s d capturesLent annotationsLent ≡ 2 = unfold readRefusal rulesOf lowest in rw (e, f) in
+      record { answered = rw r; captured = rw r; noted = rw r }
 
 record Answers : Type 0 where
-  at-108 : answer "2" 108 ≡ summary 25 108
-  captures-108 : rowsOfCaptures "2" 108 ≡ 0 ∷ 10 ∷ 0 ∷ 0 ∷ 10 ∷ 25 ∷ 48 ∷ 8 ∷ []
-  annotations-108 : annotationRows "2" 108 ≡ 4 ∷ 6 ∷ 219 ∷ 29 ∷ []
-  at-107 : answer "2" 107 ≡ refused 16
-  at-7 : answer "2" 7 ≡ refused 16
-  at-48 : answer "2" 48 ≡ summary 10 48
-  captures-48 : rowsOfCaptures "2" 48 ≡ 0 ∷ 10 ∷ 0 ∷ 0 ∷ 10 ∷ 10 ∷ 48 ∷ 8 ∷ []
-  at-44 : answer "2" 44 ≡ refused 17
-  count-22 : answer "22" 108 ≡ refused 17
-  count-21 : answer "21" 108 ≡ summary 25 108
-  deep : readAnswer (replicate 33 0x5B ++ replicate 33 0x5D) 108 [] [] ≡ refused 2
+  at-108 : Reads (withCount "2") 108 (summary 25 108) (0 ∷ 10 ∷ 0 ∷ 0 ∷ 10 ∷ 25 ∷ 48 ∷ 8 ∷ 7 ∷ 7 ∷ []) (4 ∷ 6 ∷ 219 ∷ 29 ∷ 7 ∷ 7 ∷ [])
+  at-107 : Reads (withCount "2") 107 (refused 16) capturesLent annotationsLent
+  at-7 : Reads (withCount "2") 7 (refused 16) capturesLent annotationsLent
+  at-48 : Reads (withCount "2") 48 (summary 10 48) (0 ∷ 10 ∷ 0 ∷ 0 ∷ 10 ∷ 10 ∷ 48 ∷ 8 ∷ 7 ∷ 7 ∷ []) (4 ∷ 6 ∷ 219 ∷ 29 ∷ 7 ∷ 7 ∷ [])
+  at-44 : Reads (withCount "2") 44 (refused 17) capturesLent annotationsLent
+  count-22 : Reads (withCount "22") 108 (refused 17) capturesLent annotationsLent
+  count-21 : Reads (withCount "21") 108 (summary 25 108) (0 ∷ 10 ∷ 0 ∷ 0 ∷ 10 ∷ 25 ∷ 48 ∷ 8 ∷ 7 ∷ 7 ∷ []) (4 ∷ 25 ∷ 220 ∷ 29 ∷ 7 ∷ 7 ∷ [])
+  depth-33 : Reads (nested 32) 108 (refused 2) capturesLent annotationsLent
+  depth-32 : Reads (nested 31) 108 (summary 25 108) (0 ∷ 10 ∷ 0 ∷ 0 ∷ 10 ∷ 25 ∷ 48 ∷ 8 ∷ 7 ∷ 7 ∷ []) (4 ∷ 6 ∷ 219 ∷ 29 ∷ 7 ∷ 7 ∷ [])
 
 answers : Answers
-unfolding lowest twelve datatypes rowOf widthOf flat headers samplesIn ascendingFrom unordered notWhole allEntries allNotes outside nextStartLayout captureRows summaryIn tooMany runTurns run blank skipTurn skipWhile itemTurn itemsAt groupAt anyValueAt valueAt isJson badLength rulesOf readRefusal readAnswer
+unfolding metadataWith lowest twelve datatypes rowOf widthOf flat headers samplesIn ascendingFrom unordered notWhole allEntries allNotes outside nextStartLayout captureRows summaryIn tooMany badLength
 answers = record {
-  at-108 = answered "2" 2 219 (texts .0) 108 refl ∙ refl;
-  captures-108 = captures-read "2" 2 219 (texts .0) 108 refl ∙ refl;
-  annotations-108 = annotations-read "2" 2 219 (texts .0) 108 refl ∙ refl;
-  at-107 = answered "2" 2 219 (texts .0) 107 refl ∙ refl;
-  at-7 = answered "2" 2 219 (texts .0) 7 refl ∙ refl;
-  at-48 = answered "2" 2 219 (texts .0) 48 refl ∙ refl;
-  captures-48 = captures-read "2" 2 219 (texts .0) 48 refl ∙ refl;
-  at-44 = answered "2" 2 219 (texts .0) 44 refl ∙ refl;
-  count-22 = answered "22" 22 220 (texts .2) 108 refl ∙ refl;
-  count-21 = answered "21" 21 220 (texts .1) 108 refl ∙ refl;
-  deep = refl;
+  at-108 = said (withCount "2") 108 (recording 2 219) (texts .two) refl;
+  at-107 = said (withCount "2") 107 (recording 2 219) (texts .two) refl;
+  at-7 = said (withCount "2") 7 (recording 2 219) (texts .two) refl;
+  at-48 = said (withCount "2") 48 (recording 2 219) (texts .two) refl;
+  at-44 = said (withCount "2") 44 (recording 2 219) (texts .two) refl;
+  count-22 = said (withCount "22") 108 (recording 22 220) (texts .twentyTwo) refl;
+  count-21 = said (withCount "21") 108 (recording 21 220) (texts .twentyOne) refl;
+  depth-33 = not-json (nested 32) 108 refl (texts .tooDeep);
+  depth-32 = said (nested 31) 108 (recording 2 219) (texts .deep) refl;
 }
+
+-- ---- each line
+same-self : (l : List ℕ) → same l l ≡ true
+unfolding same
+same-self [] = refl
+same-self (a ∷ l) = rw (eq-eqb a a refl, same-self l)
+
+line : (s : List ℕ) (d : ℕ) (t : Summary) (caps notes : List ℕ) → Reads s d t caps notes → reads s d (summaryNumbers t) caps notes ≡ true
+unfolding reads
+line s d t caps notes r = rw (r .answered, r .captured, r .noted, same-self (summaryNumbers t), same-self caps, same-self notes)
+
+table-line : (f : Summary → List ℕ → List ℕ → Bool) → f (summary 25 108) (0 ∷ 10 ∷ 0 ∷ 0 ∷ 10 ∷ 25 ∷ 48 ∷ 8 ∷ 7 ∷ 7 ∷ []) (4 ∷ 6 ∷ 219 ∷ 29 ∷ 7 ∷ 7 ∷ []) ≡ true → ofRecording f ≡ true
+table-line f e = rw (answers .at-108 .answered, answers .at-108 .captured, answers .at-108 .noted) e
 
 -- Document 01, "How far the promises go": "The P lines are proved of the definitions as one table under a single statement".
 pub marked-hold : allHold marked ≡ true
-unfolding allHold marked gives pieces same twelve datatypes listed rowOf widthOf row captureAt annotationAt rowsFrom flat headerSum headersTo placeTable nextStart captureOk capturesOk textOk textsOk annotationOk annotationsOk formatOk countsOk sizesOk rowsOk wellFormed kept cutSummary cut put runs inside piecesAnswer
+unfolding allHold marked gives pieces cuts same twelve datatypes listed rowOf widthOf row captureAt annotationAt rowsFrom flat headerSum headersTo placeTable nextStart captureOk capturesOk textOk textsOk annotationOk annotationsOk formatOk countsOk sizesOk rowsOk wellFormed kept cutSummary cut cutAnswer put runs inside piecesAnswer
 marked-hold =
-    rw (answers .at-108, answers .captures-108, answers .annotations-108, answers .at-107, answers .at-7, answers .at-48, answers .captures-48, answers .at-44, answers .count-22, answers .count-21, answers .deep)
+    ap allHold (λ i.
+    line _ _ _ _ _ (answers .at-108) i
+    ∷ line _ _ _ _ _ (answers .at-107) i
+    ∷ line _ _ _ _ _ (answers .at-7) i
+    ∷ line _ _ _ _ _ (answers .at-48) i
+    ∷ line _ _ _ _ _ (answers .at-44) i
+    ∷ table-line (pieces 4 12 0 2 (16 ∷ 24 ∷ 48 ∷ 8 ∷ 7 ∷ 7 ∷ [])) refl i
+    ∷ table-line (pieces 0 10 0 1 (0 ∷ 40 ∷ 7 ∷ 7 ∷ 7 ∷ 7 ∷ [])) refl i
+    ∷ table-line (pieces 25 25 0 0 piecesLent) refl i
+    ∷ table-line (pieces 25 26 19 0 piecesLent) refl i
+    ∷ table-line (cuts 4 12 (0 ∷ 16 ∷ 1 ∷ 4 ∷ 4 ∷ 0 ∷ 8 ∷ 32 ∷ 2 ∷ 1 ∷ 0 ∷ 0 ∷ []) (4 ∷ 10 ∷ 0 ∷ 0 ∷ 10 ∷ 12 ∷ 24 ∷ 0 ∷ 7 ∷ 7 ∷ []) (4 ∷ 6 ∷ 219 ∷ 29 ∷ 7 ∷ 7 ∷ [])) refl i
+    ∷ line _ _ _ _ _ (answers .count-22) i
+    ∷ line _ _ _ _ _ (answers .count-21) i
+    ∷ line _ _ _ _ _ (answers .depth-33) i
+    ∷ line _ _ _ _ _ (answers .depth-32) i
+    ∷ [])
 
 -- Document 01, "How far the promises go": neither "refusing everything, or one fixed answer"
-pub some-accepted : (answer "2" 108 .refusal ≡ 0) × (answer "2" 107 .refusal ≡ 16)
-some-accepted = (ap (λ (t : Summary). t .refusal) (answers .at-108), ap (λ (t : Summary). t .refusal) (answers .at-107))
+pub some-accepted : (answer (withCount "2") 108 .refusal ≡ 0) × (answer (withCount "2") 107 .refusal ≡ 16)
+some-accepted = (ap (λ (t : Summary). t .refusal) (answers .at-108 .answered), ap (λ (t : Summary). t .refusal) (answers .at-107 .answered))

@@ -1,85 +1,110 @@
--- Demand 2: a recording is accepted exactly when the rules hold, and the table holds exactly the rows they give.
+-- Demand 2: a recording is accepted exactly when the rules hold, and its table holds exactly the rows they give. s is the metadata, d the length
+-- of the dataset, caps and notes the memory lent for rows. `Text nesting s` derives s by the grammar of ECMA-404, nested at most 32 deep;
+-- what a derivation says, and the refusals from 3 on over it, stand in crates/derived/specs.
 use mathlib.Core.Path.{_≡_}
-use mathlib.Core.Logic.{_⊎_}
-use mathlib.Core.Bool.{Bool, true, cond, not, _&&_}
+use mathlib.Core.Logic.{_↔_}
+use mathlib.Core.Bool.{true, false, cond}
 use mathlib.Core.List.{List, [], _∷_, _++_}
-use Prim.Native.Nat.{ℕ, suc, _+_, _-_, _*_, _≤_, _<_}
+use mathlib.Core.Option.{Option, none, some}
+use Prim.Native.Nat.{ℕ, suc, _+_, _-_, _*_, _<_}
 use lib.ListN.{length, getD, take}
-use lib.Dec.{eqb, ltb}
-use Rattle.refusals.specs.Refusals.{Rule, rule}
+use lib.Dec.{ltb}
+use Rattle.limits.specs.Limits.{nesting}
+use Rattle.grammar.specs.Grammar.{Number, Text}
+use Rattle.decode.specs.Meaning.{Means}
+use Rattle.decode.specs.Utf8.{Utf8}
+use Rattle.refusals.specs.Refusals.{Rule, rule, ByRules}
 use Rattle.table.specs.declared.Capture.{Capture}
-use Rattle.table.specs.declared.Annotation.{Annotation}
 use Rattle.table.specs.declared.Summary.{Summary}
-use Rattle.table.specs.Rows.{captureAt, annotationAt, capturesOf, annotationsOf}
-use Rattle.layout.specs.declared.CaptureEntry.{CaptureEntry}
-use Rattle.layout.specs.declared.AnnotationEntry.{AnnotationEntry}
-use Rattle.layout.specs.Layout.{headers, widthIn, endIndex, noteEnd, tooMany, summaryIn, capturesIn, annotationsIn}
-use Rattle.objects.specs.Capture.{captureIn}
-use Rattle.objects.specs.Annotation.{annotationIn}
-use Rattle.recording.specs.File.{elementsIn, named, fileOf}
-use Rattle.recording.specs.Reading.{readRules, contents, readAnswer, capturesRead, annotationsRead}
+use Rattle.table.specs.Memory.{written}
+use Rattle.table.specs.Rows.{captureNumbers, annotationNumbers, captureAt, annotationAt, flat, capturesOf, annotationsOf}
+use Rattle.table.specs.Table.{refused}
+use Rattle.layout.specs.Layout.{headers, widthIn, endIndex, tooMany, summaryIn, annotationRow}
+use Rattle.recording.specs.Reading.{badLength, judgement, readAnswer, capturesRead, annotationsRead}
+use Rattle.labels.specs.Text.{part}
+use Rattle.derived.specs.Derived.{Node, Here, Entry, kind}
+use Rattle.derived.specs.Rules.{textIn, value, captureIn, annotationIn, rulesOf, fileOf, contentsOf}
 
--- ---- "exactly when"
--- 1 to 17, and 20
-abbrev pub allRules : List ℕ → ℕ → List ℕ → List ℕ → List Rule
-allRules s d caps notes = readRules s d ++ (rule 20 (tooMany (contents s) caps notes) ∷ [])
+-- ---- "exactly when": the number n of an answer; the rules from 3 on are those of a derivation
+pub record Numbered (s : List ℕ) (d n : ℕ) (rules : Text nesting s → List Rule) : Type 0 where
+  -- 1: "metadata empty or too long, or D above 2^48"
+  pub one : (n ≡ 1) ↔ (badLength s d ≡ true)
+  -- 2: "not one JSON value in valid UTF-8, or nested beyond 32": the grammar derives no text
+  pub two : (n ≡ 2) ↔ ((badLength s d ≡ false) × (Text nesting s → ⊥))
+  -- else "the smallest number whose condition holds", and 0 exactly if none does, in whatever way the text is derived
+  pub more : badLength s d ≡ false → (t : Text nesting s) → ByRules n (rules t)
+  -- any other number than 1 and 2 is the answer for a text
+  pub text : (n ≡ 1 → ⊥) → (n ≡ 2 → ⊥) → Text nesting s
 
--- no condition holds
-unfoldable pub noneHolds : List Rule → Bool
-noneHolds [] = true
-noneHolds (r ∷ rs) = not (r .holds) && noneHolds rs
+-- 3 to 17, and 20
+abbrev pub allRules : {s : List ℕ} → Text nesting s → ℕ → List ℕ → List ℕ → List Rule
+allRules t d caps notes = rulesOf t d ++ (rule 20 (tooMany (contentsOf t) caps notes) ∷ [])
 
--- the condition with the number n holds
-unfoldable pub Holds : ℕ → List Rule → Type 0
-Holds n [] = ⊥
-Holds n (r ∷ rs) = ((r .number ≡ n) × (r .holds ≡ true)) ⊎ Holds n rs
+-- ---- texts in the text
+-- "place and length of the raw label between its quotes; 0, 0 if absent": the member's value stands at its place in s, the bytes of s at the
+-- label's place are that value without its quotes, and they mean its text; such a place is above 0, so that 0, 0 tells absence exactly
+pub data LabelAt (s : List ℕ) : Option Node → ℕ → ℕ → Type 0 where
+  no-label : LabelAt s none 0 0
+  label : {n : Node} {l : ℕ} → Here s n → n .bytes ≡ 0x22 ∷ (part s (n .at + 1) l ++ (0x22 ∷ [])) → Means (part s (n .at + 1) l) (textIn (kind n))
+      → LabelAt s (some n) (n .at + 1) l
 
--- "the smallest number whose condition holds"
-pub record Smallest (n : ℕ) (rs : List Rule) : Type 0 where
-  pub holds : Holds n rs
-  pub least : (m : ℕ) → Holds m rs → n ≤ m
+-- "place and length of sample_rate (0, 0 if absent)": those of the member's value, a number
+pub data RateAt (s : List ℕ) : Option Node → ℕ → ℕ → Type 0 where
+  no-rate : RateAt s none 0 0
+  rate : {n : Node} → Here s n → Number (n .bytes) → RateAt s (some n) (n .at) (length (n .bytes))
 
--- ---- each row
--- what element k of `captures`, and of `annotations`, says
-abbrev pub captureSaid : List ℕ → ℕ → CaptureEntry
-captureSaid s k = captureIn (getD (fileOf s .captures) k [])
-
-abbrev pub annotationSaid : List ℕ → ℕ → AnnotationEntry
-annotationSaid s k = annotationIn (getD (fileOf s .annotations) k [])
-
--- the n captures' row k: "A capture ends where the next starts, the last at O + N"; "first byte counts the headers up to and including
--- this capture's own"
-abbrev pub captureRow : List ℕ → ℕ → ℕ → ℕ → Capture
-captureRow s d n k = record {
-  start = captureSaid s k .start;
-  end = cond (ltb (suc k) n) (captureSaid s (suc k) .start) (endIndex (contents s) d);
-  first = (captureSaid s k .start - contents s .globals .offset) * widthIn (contents s .globals) + headers (take (suc k) (contents s .captures));
-  header = captureSaid s k .header;
-}
-
-abbrev pub annotationRow : List ℕ → ℕ → ℕ → Annotation
-annotationRow s d k = record {
-  start = annotationSaid s k .start;
-  end = noteEnd (endIndex (contents s) d) (annotationSaid s k .start) (annotationSaid s k .count);
-  label = annotationSaid s k .label;
-  labellen = annotationSaid s k .labellen;
-}
-
--- the table of a recording: its summary t and rows, read off the memories caps and notes
-pub record TableOf (s : List ℕ) (d : ℕ) (t : Summary) (caps notes : List ℕ) : Type 0 where
-  pub summary : t ≡ summaryIn (contents s) d
-  pub captureRows : capturesOf t caps ≡ capturesIn (contents s) d
-  pub annotationRows : annotationsOf t notes ≡ annotationsIn (contents s) d
+-- ---- the table r of a recording, by a derivation t
+pub record SummaryBy {s : List ℕ} (t : Text nesting s) (d : ℕ) (r : Summary) : Type 0 where
+  pub numbers : r ≡ summaryIn (contentsOf t) d
   -- as many rows as the arrays have elements: neither an empty table nor invented counts
-  pub captureCount : t .captures ≡ length (elementsIn s (named "captures" s))
-  pub annotationCount : t .annotations ≡ length (elementsIn s (named "annotations" s))
-  -- row k is that of element k: not a copy of the first
-  pub capture : (k : ℕ) → k < t .captures → captureAt caps k ≡ captureRow s d (t .captures) k
-  pub annotation : (k : ℕ) → k < t .annotations → annotationAt notes k ≡ annotationRow s d k
+  pub captureCount : r .captures ≡ length (fileOf t .captures)
+  pub annotationCount : r .annotations ≡ length (fileOf t .annotations)
+  pub rate : RateAt s (value "core:sample_rate" (fileOf t .global)) (r .rate) (r .ratelen)
 
--- of the reader's answer and of the memories that it leaves
+-- the members of element k of `captures`, and of `annotations`
+abbrev pub capture : {s : List ℕ} → Text nesting s → ℕ → List Entry
+capture t k = getD (fileOf t .captures) k []
+
+abbrev pub annotation : {s : List ℕ} → Text nesting s → ℕ → List Entry
+annotation t k = getD (fileOf t .annotations) k []
+
+-- the row of capture k: "A capture ends where the next starts, the last at O + N"; "first byte counts the headers up to and including this
+-- capture's own"
+abbrev pub captureRow : {s : List ℕ} → Text nesting s → ℕ → ℕ → Capture
+captureRow t d k = record {
+  start = captureIn (capture t k) .start;
+  end = cond (ltb (suc k) (length (fileOf t .captures))) (captureIn (capture t (suc k)) .start) (endIndex (contentsOf t) d);
+  first = (captureIn (capture t k) .start - contentsOf t .globals .offset) * widthIn (contentsOf t .globals) + headers (take (suc k) (contentsOf t .captures));
+  header = captureIn (capture t k) .header;
+}
+
+-- the memories held caps and notes before, and hold m and k after
+pub record RowsBy {s : List ℕ} (t : Text nesting s) (d : ℕ) (r : Summary) (caps notes m k : List ℕ) : Type 0 where
+  -- row i is that of element i: not a copy of the first
+  pub captureRows : (i : ℕ) → i < r .captures → captureAt m i ≡ captureRow t d i
+  pub annotationRows : (i : ℕ) → i < r .annotations → annotationAt k i ≡ annotationRow (endIndex (contentsOf t) d) (annotationIn (annotation t i))
+  pub labels : (i : ℕ) → i < r .annotations → LabelAt s (value "core:label" (annotation t i)) (annotationAt k i .label) (annotationAt k i .labellen)
+  -- "from the front of the lent memory; beyond them nothing changes"
+  pub captureMemory : m ≡ written (flat captureNumbers (capturesOf r m)) caps
+  pub annotationMemory : k ≡ written (flat annotationNumbers (annotationsOf r k)) notes
+
+-- ---- a reader's answer r, and the memories m and k that it leaves
+pub record ReadBy (s : List ℕ) (d : ℕ) (caps notes : List ℕ) (r : Summary) (m k : List ℕ) : Type 0 where
+  pub number : Numbered s d (r .refusal) (λ t. allRules t d caps notes)
+  pub summary : r .refusal ≡ 0 → (t : Text nesting s) → SummaryBy t d r
+  pub rows : r .refusal ≡ 0 → (t : Text nesting s) → RowsBy t d r caps notes m k
+  -- "that number, 0 in every other number of the answer"; "every lent row and byte keeps its content"
+  pub alone : (r .refusal ≡ 0 → ⊥) → r ≡ refused (r .refusal)
+  pub keeps : (r .refusal ≡ 0 → ⊥) → (m ≡ caps) × (k ≡ notes)
+
+-- the reader's own, as the contracts of `read` and `judge` have it
 pub record Demand2 (s : List ℕ) (d : ℕ) (caps notes : List ℕ) : Type 0 where
-  -- accepted exactly when no condition holds: neither everything refused nor one fixed answer
-  pub exactly : eqb (readAnswer s d caps notes .refusal) 0 ≡ noneHolds (allRules s d caps notes)
-  pub smallest : (readAnswer s d caps notes .refusal ≡ 0 → ⊥) → Smallest (readAnswer s d caps notes .refusal) (allRules s d caps notes)
-  pub table : readAnswer s d caps notes .refusal ≡ 0 → TableOf s d (readAnswer s d caps notes) (capturesRead s d caps notes) (annotationsRead s d caps notes)
+  pub read : ReadBy s d caps notes (readAnswer s d caps notes) (capturesRead s d caps notes) (annotationsRead s d caps notes)
+  -- and no other: not one that refuses everything or has one fixed answer, an empty table, rows copied from the first or invented counts
+  pub only : (r : Summary) (m k : List ℕ) → ReadBy s d caps notes r m k
+      → (r ≡ readAnswer s d caps notes) × (m ≡ capturesRead s d caps notes) × (k ≡ annotationsRead s d caps notes)
+  -- without rows
+  pub judged : Numbered s d (judgement s d .refusal) (λ t. rulesOf t d)
+  pub judgedSummary : judgement s d .refusal ≡ 0 → (t : Text nesting s) → SummaryBy t d (judgement s d)
+  -- "in valid UTF-8": a derived text is, whole
+  pub utf8 : Text nesting s → Utf8 s

@@ -1,20 +1,58 @@
--- Demand 2, of the listing of an accepted recording.
-use Prim.Native.Nat.{ℕ}
+-- Demand 2, of the listing of an accepted recording: "the listing has one line for the recording, each capture and each annotation, whatever a
+-- label contains, and each label's text can be recovered from its line". s is the metadata, t the table as it was read, with its rows in
+-- caps and notes, and m the output lent to the listing, as it was.
 use mathlib.Core.Path.{_≡_}
 use mathlib.Core.Bool.{cond}
-use mathlib.Core.List.{List, _∷_, _++_, map}
-use lib.ListN.{length}
+use mathlib.Core.List.{List, [], _∷_, _++_, map}
+use mathlib.Core.Option.{Option, none, some}
+use Prim.Native.Nat.{ℕ, _+_, _<_}
+use lib.ListN.{length, getD, take}
 use lib.Dec.{leb}
+use Rattle.limits.specs.Limits.{nesting}
+use Rattle.grammar.specs.Grammar.{Text}
+use Rattle.decode.specs.Meaning.{Means}
 use Rattle.table.specs.declared.Summary.{Summary}
-use Rattle.table.specs.Rows.{capturesOf, annotationsOf}
+use Rattle.table.specs.Memory.{written}
+use Rattle.table.specs.Rows.{capturesOf, annotationsOf, flat}
+use Rattle.listing.specs.declared.Listed.{Listed}
 use Rattle.listing.specs.Lines.{recordingLine, captureLine, annotationLine}
-use Rattle.listing.specs.Listing.{listingOf, listed, listingAnswer}
+use Rattle.listing.specs.Listing.{listed, listingAnswer, listingMemory}
 use Rattle.lines.specs.Split.{splitLines}
+use Rattle.lines.specs.Recover.{labelIn}
+use Rattle.recording.specs.Reading.{readAnswer, capturesRead, annotationsRead}
+use Rattle.derived.specs.Derived.{Node}
+use Rattle.derived.specs.Rules.{value}
+use Rattle.claims.specs.Demand2.{annotation}
 
--- "the listing has one line for the recording, each capture and each annotation, whatever a label contains": the listing of a table t with
--- rows caps and notes over the metadata s is never refused with 18, and given room it is accepted
-pub record ListedWhole (t : Summary) (caps notes s : List ℕ) (room : ℕ) : Type 0 where
-  pub answer : listingAnswer t caps notes s room
-      ≡ cond (leb (length (listingOf t caps notes s)) room) (listed 0 (length (listingOf t caps notes s))) (listed 20 0)
-  pub lines : splitLines (listingOf t caps notes s)
-      ≡ recordingLine t ∷ map captureLine (capturesOf t caps) ++ map (annotationLine s) (annotationsOf t notes)
+-- what is got back from an annotation's line: none if it has no `core:label`, else what the characters of that member's value mean
+pub data LabelBack : Option Node → Option (List ℕ) → Type 0 where
+  no-label : LabelBack none none
+  label : {n : Node} {cs x : List ℕ} → n .bytes ≡ 0x22 ∷ (cs ++ (0x22 ∷ [])) → Means cs x → LabelBack (some n) (some x)
+
+module _ (t : Summary) (caps notes s : List ℕ) where
+  -- a line each
+  abbrev pub allLines : List (List ℕ)
+  allLines = recordingLine t ∷ map captureLine (capturesOf t caps) ++ map (annotationLine s) (annotationsOf t notes)
+
+  abbrev pub joined : List ℕ
+  joined = flat (λ l. l) allLines
+
+-- an answer r, and the output w that the call leaves
+pub record ListedBy (t : Summary) (caps notes s m : List ℕ) (r : Listed) (w : List ℕ) : Type 0 where
+  -- refused for lack of room alone, and then with 20
+  pub answer : r ≡ cond (leb (length (joined t caps notes s)) (length m)) (listed 0 (length (joined t caps notes s))) (listed 20 0)
+  -- "from the front of the lent memory; beyond them nothing changes"
+  pub output : w ≡ cond (leb (length (joined t caps notes s)) (length m)) (written (joined t caps notes s) m) m
+  -- the lines, read off the first `bytes` bytes of the output
+  pub lines : r .refusal ≡ 0 → splitLines (take (r .bytes) w) ≡ allLines t caps notes s
+  -- the line of annotation k, past those of the recording and its captures, in whatever way the text is derived
+  pub labels : r .refusal ≡ 0 → (u : Text nesting s) (k : ℕ) → k < t .annotations
+      → LabelBack (value "core:label" (annotation u k)) (labelIn (getD (splitLines (take (r .bytes) w)) (1 + t .captures + k) []))
+
+-- of the table as the reader leaves it
+abbrev pub ListedRead : List ℕ → ℕ → List ℕ → List ℕ → List ℕ → Type 0
+ListedRead s d caps notes m =
+    let t = readAnswer s d caps notes in
+    let c = capturesRead s d caps notes in
+    let n = annotationsRead s d caps notes in
+    ListedBy t c n s m (listingAnswer t c n s (length m)) (listingMemory t c n s m)

@@ -27,7 +27,7 @@ use Rattle.decode.specs.declared.Unit.the-variants.{Byte, Escape}
 use Rattle.decode.specs.declared.Stream.{Stream}
 use Rattle.decode.specs.declared.Stream.the-variants.{Next, End}
 use Rattle.decode.specs.Decode.{shortCode, unitHex4, pairCode, lowUnit, unicodeUnit, escapeUnit, unitAt, utf8, unitBytes, unitEnd, endsString}
-use Rattle.decode.specs.Decode.{decodedUnits, decodedFrom, bodyOnward, bodyTurn, bytesAt, stream, streamed, laterByte}
+use Rattle.decode.specs.Decode.{decodedUnits, decodedFrom, bodyOnward, bodyTurn, bytesAt, stream, nextByte, laterByte}
 
 -- ---- a unit passes a byte
 data Past (at : ℕ) : Unit → Type 0 where
@@ -214,6 +214,27 @@ module _ (s : List ℕ) (at : ℕ) (h : endsString s at ≡ false) (u : Unit) (e
       let d = drop-of-length-le (unitBytes s at u) {i = suc k} (omega arith) in
       rw (stream-is s at h u e k l, drop-cons (unitBytes s at u) k 0 l, d, stream-start s (unitEnd at u))
 
+-- ---- the next byte, at the end of a string or at a unit u
+module _ (s : List ℕ) (at k : ℕ) where
+  next-stop : endsString s at ≡ true → End ≡ nextByte s at k
+  unfolding nextByte bytesAt
+  next-stop h = rw (h, le-ltb k 0 (omega arith))
+
+  module _ (h : endsString s at ≡ false) (u : Unit) (e : unitAt s at ≡ u) where
+    next-none : length (unitBytes s at u) ≤ k → End ≡ nextByte s at k
+    unfolding nextByte
+    next-none l = rw (bytes-in s at h u e k, le-ltb _ _ l)
+
+    next-more : k + 1 < length (unitBytes s at u) → Next (getD (unitBytes s at u) k 0) at (k + 1) ≡ nextByte s at k
+    unfolding nextByte
+    next-more l =
+        let m : k < length (unitBytes s at u) = omega arith in
+        rw (bytes-in s at h u e k, lt-ltb _ _ m, lt-ltb _ _ l)
+
+    next-last : k < length (unitBytes s at u) → length (unitBytes s at u) ≤ k + 1 → Next (getD (unitBytes s at u) k 0) (unitEnd at u) 0 ≡ nextByte s at k
+    unfolding nextByte
+    next-last l m = rw (bytes-in s at h u e k, lt-ltb _ _ l, le-ltb _ _ m, e)
+
 -- ---- units, as the code reads them
 module _ (s : List ℕ) (n at b : ℕ) (eb : b ≡ byte s at) where
   pub low-1 : (b ≡ 0x5C → ⊥) → Byte ≡ lowUnit s n at
@@ -283,19 +304,19 @@ pub unit-plain : (s : List ℕ) (at : ℕ) → (byte s at ≡ 0x5C → ⊥) → 
 unfolding unitAt
 unit-plain s at h = rw (ne-eqb _ _ h)
 
-pub next-over : (s : List ℕ) (at k : ℕ) → length s ≤ at → [] ≡ stream s at k
-next-over s at k h = stream-end s at k (ends-over s at h)
+pub next-over : (s : List ℕ) (at k : ℕ) → length s ≤ at → End ≡ nextByte s at k
+next-over s at k h = next-stop s at k (ends-over s at h)
 
 module _ (s : List ℕ) (at k : ℕ) (l : at < length s) where
-  pub next-quote : byte s at ≡ 0x22 → [] ≡ stream s at k
-  next-quote h = stream-end s at k (ends-quote s at l h)
+  pub next-quote : byte s at ≡ 0x22 → End ≡ nextByte s at k
+  next-quote h = next-stop s at k (ends-quote s at l h)
 
   module _ (h : byte s at ≡ 0x5C → ⊥) (q : byte s at ≡ 0x22 → ⊥) where
-    pub next-plain : k ≡ 0 → byte s at ∷ stream s (at + 1) 0 ≡ stream s at k
-    next-plain e = rw e (stream-last s at (ends-not s at l q) Byte (unit-plain s at h) 0 (omega arith) (omega arith))
+    pub next-plain : k ≡ 0 → Next (byte s at) (at + 1) 0 ≡ nextByte s at k
+    next-plain e = rw e (next-last s at 0 (ends-not s at l q) Byte (unit-plain s at h) (omega arith) (omega arith))
 
-    pub next-plain-none : (k ≡ 0 → ⊥) → [] ≡ stream s at k
-    next-plain-none f = stream-none s at (ends-not s at l q) Byte (unit-plain s at h) k (omega arith)
+    pub next-plain-none : (k ≡ 0 → ⊥) → End ≡ nextByte s at k
+    next-plain-none f = next-none s at k (ends-not s at l q) Byte (unit-plain s at h) (omega arith)
 
   module _ (eb : byte s at ≡ 0x5C) (u : Unit) (eu : u ≡ escapeUnit s (at + 1)) where
     goes : endsString s at ≡ false
@@ -306,30 +327,52 @@ module _ (s : List ℕ) (at k : ℕ) (l : at < length s) where
     unit-escape = rw (eq-eqb _ _ eb, ← eu)
 
     module _ (h : u ≡ Byte) where
-      pub escape-byte : k ≡ 0 → 0x5C ∷ stream s (at + 1) 0 ≡ stream s at k
-      escape-byte e = rw (e, ← eb) (stream-last s at goes Byte (unit-escape ∙ h) 0 (omega arith) (omega arith))
+      pub escape-byte : k ≡ 0 → Next 0x5C (at + 1) 0 ≡ nextByte s at k
+      escape-byte e = rw (e, ← eb) (next-last s at 0 goes Byte (unit-escape ∙ h) (omega arith) (omega arith))
 
-      pub escape-byte-none : (k ≡ 0 → ⊥) → [] ≡ stream s at k
-      escape-byte-none f = stream-none s at goes Byte (unit-escape ∙ h) k (omega arith)
+      pub escape-byte-none : (k ≡ 0 → ⊥) → End ≡ nextByte s at k
+      escape-byte-none f = next-none s at k goes Byte (unit-escape ∙ h) (omega arith)
 
     module _ (p j n : ℕ) (h : u ≡ Escape p j) (en : n ≡ length (utf8 p)) where
-      pub escape-none : n ≤ k → [] ≡ stream s at k
-      escape-none g = stream-none s at goes (Escape p j) (unit-escape ∙ h) k (omega arith)
+      pub escape-none : n ≤ k → End ≡ nextByte s at k
+      escape-none g = next-none s at k goes (Escape p j) (unit-escape ∙ h) (omega arith)
 
       module _ (b : ℕ) (e : b ≡ getD (utf8 p) k 0) where
-        pub escape-more : k + 1 < n → b ∷ stream s at (k + 1) ≡ stream s at k
-        escape-more g = rw e (stream-more s at goes (Escape p j) (unit-escape ∙ h) k (omega arith))
+        pub escape-more : k + 1 < n → Next b at (k + 1) ≡ nextByte s at k
+        escape-more g = rw e (next-more s at k goes (Escape p j) (unit-escape ∙ h) (omega arith))
 
-        pub escape-last : k < n → n ≤ k + 1 → b ∷ stream s j 0 ≡ stream s at k
-        escape-last f g = rw e (stream-last s at goes (Escape p j) (unit-escape ∙ h) k (omega arith) (omega arith))
+        pub escape-last : k < n → n ≤ k + 1 → Next b j 0 ≡ nextByte s at k
+        escape-last f g = rw e (next-last s at k goes (Escape p j) (unit-escape ∙ h) (omega arith) (omega arith))
 
--- g is what the stream x says
-module _ (s x : List ℕ) (g : Stream) (e : streamed s g ≡ x) where
-  pub streamed-next : (b j m : ℕ) → g ≡ Next b j m → x ≡ b ∷ stream s j m
-  streamed-next b j m h = sym e ∙ ap (streamed s) h
+-- what a next byte says of the stream
+abbrev streamed : List ℕ → Stream → List ℕ
+streamed s (Next b at k) = b ∷ stream s at k
+streamed s End = []
 
-  pub streamed-end : g ≡ End → x ≡ []
-  streamed-end h = sym e ∙ ap (streamed s) h
+stream-by : (s : List ℕ) (at k : ℕ) → streamed s (nextByte s at k) ≡ stream s at k
+stream-by s at k = go (endsString s at) refl where
+  len : ℕ
+  len = length (unitBytes s at (unitAt s at))
+
+  last : (t : Bool) → ltb (k + 1) len ≡ t → endsString s at ≡ false → k < len → streamed s (nextByte s at k) ≡ stream s at k
+  last true q h l = let m : k + 1 < len = ltb-true _ _ q in rw (← next-more s at k h (unitAt s at) refl m) (stream-more s at h (unitAt s at) refl k m)
+  last false q h l = let m : len ≤ k + 1 = ltb-false _ _ q in rw (← next-last s at k h (unitAt s at) refl l m) (stream-last s at h (unitAt s at) refl k l m)
+
+  inner : (t : Bool) → ltb k len ≡ t → endsString s at ≡ false → streamed s (nextByte s at k) ≡ stream s at k
+  inner true q h = last (ltb (k + 1) len) refl h (ltb-true _ _ q)
+  inner false q h = let m : len ≤ k = ltb-false _ _ q in rw (← next-none s at k h (unitAt s at) refl m) (stream-none s at h (unitAt s at) refl k m)
+
+  go : (t : Bool) → endsString s at ≡ t → streamed s (nextByte s at k) ≡ stream s at k
+  go true h = rw (← next-stop s at k h) (stream-end s at k h)
+  go false h = inner (ltb k len) refl h
+
+-- g is the next byte from byte k of the unit at a place on
+module _ (s : List ℕ) (at k : ℕ) (g : Stream) (e : g ≡ nextByte s at k) where
+  pub streamed-next : (b j m : ℕ) → g ≡ Next b j m → stream s at k ≡ b ∷ stream s j m
+  streamed-next b j m h = sym (stream-by s at k) ∙ ap (streamed s) (sym e ∙ h)
+
+  pub streamed-end : g ≡ End → stream s at k ≡ []
+  streamed-end h = sym (stream-by s at k) ∙ ap (streamed s) (sym e ∙ h)
 
 pub shorter : (x y : List ℕ) (b : ℕ) → x ≡ b ∷ y → length y < length x
 shorter x y b e = omega (arith, ap length e)

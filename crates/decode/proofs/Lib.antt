@@ -3,3 +3,4 @@ pub mod Theorem
 pub mod PlainLaws
 pub mod ScalarLaws
 pub mod LengthLaws
+pub mod TextUtf8

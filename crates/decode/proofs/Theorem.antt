@@ -18,10 +18,11 @@ use Rattle.tokens.proofs.TextLaws.{inside, cond-elim, within-below, within-abov
 use Rattle.tokens.proofs.StringLaws.{character-inside}
 use Rattle.grammar.specs.Grammar as G
 use Rattle.grammar.specs.Grammar.{Between, Multibyte, row2, row3, row4, row5, row6, row7, row8, row9, Short, Character, Characters, no-characters, characters}
-use Rattle.grammar.proofs.Stands.{Stands, stands-none, stands-head, stands-tail, stands-inside, stands-left, stands-right, stands-join}
+use Rattle.grammar.specs.Stands.{Stands}
+use Rattle.grammar.proofs.Stands.{stands-none, stands-head, stands-tail, stands-inside, stands-left, stands-right, stands-join}
 use Rattle.grammar.proofs.Derived.{Derived, derived, stands-nil, stands-next, stands-whole, stands-all, Got, got, not-got}
 use Rattle.grammar.proofs.Skips.{is-between}
-use Rattle.grammar.proofs.Strings.{character-sound, character-complete, CodeAt, unit-complete}
+use Rattle.grammar.proofs.Strings.{character-sound, character-complete, CodeAt, unit-complete, unit-limit}
 use Rattle.grammar.proofs.SkipLaws.{All, Ordinary, multibyte-ordinary}
 use Rattle.decode.specs.declared.Unit.{Unit}
 use Rattle.decode.specs.declared.Unit.the-variants.{Byte, Escape}
@@ -213,6 +214,29 @@ character-means (G.surrogates u h v g) = (_, surrogates u h v g)
 characters-mean : {cs : List ℕ} → Characters cs → (t : List ℕ) × Means cs t
 characters-mean no-characters = (_, nothing)
 characters-mean (characters p r) = let m = character-means p in let n = characters-mean r in (_, next (m .1) (n .1))
+
+-- and what has a meaning is a character
+letter-short : {b p : ℕ} → Letter b p → Short b
+letter-short quotation-mark = G.quotation-mark
+letter-short reverse-solidus = G.reverse-solidus
+letter-short solidus = G.solidus
+letter-short backspace = G.backspace
+letter-short form-feed = G.form-feed
+letter-short new-line = G.new-line
+letter-short return = G.return
+letter-short tabulation = G.tabulation
+
+meaning-character : {c t : List ℕ} → Meaning c t → Character c
+meaning-character (plain h f g) = G.plain h f g
+meaning-character (multibyte m) = G.multibyte m
+meaning-character (short l) = G.short (letter-short l)
+meaning-character (unit u (below h)) = G.below u h
+meaning-character (unit u (above h)) = G.above u (record { low = h .low; high = unit-limit u })
+meaning-character (surrogates u h v g) = G.surrogates u h v g
+
+pub means-characters : {cs t : List ℕ} → Means cs t → Characters cs
+means-characters nothing = no-characters
+means-characters (next m r) = characters (meaning-character m) (means-characters r)
 
 meaning-encoded : {c t : List ℕ} → Meaning c t → Encoded t
 meaning-encoded (plain h f g) = single (h .high)

@@ -10,7 +10,8 @@ use Rattle.tokens.specs.declared.Cursor.{Cursor}
 use Rattle.tokens.specs.declared.Read.{Read}
 use Rattle.tokens.specs.declared.Read.the-variants.{To, Bad}
 use Rattle.tokens.proofs.TextLaws.{inside}
-use Rattle.grammar.proofs.Stands.{Stands, stands-one, stands-byte, stands-join, stands-head, stands-inside}
+use Rattle.grammar.specs.Stands.{Stands}
+use Rattle.grammar.proofs.Stands.{stands-one, stands-byte, stands-join, stands-head, stands-inside}
 
 -- a list that P derives stands from i up to j
 pub data Derived (P : List ℕ → Type 0) (s : List ℕ) (i j : ℕ) : Type 0 where

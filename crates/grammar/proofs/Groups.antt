@@ -20,10 +20,11 @@ use Rattle.tokens.proofs.TextLaws.{inside, cond-elim, blanks-onward}
 use Rattle.tokens.proofs.GroupLaws.{after-close}
 use Rattle.grammar.specs.Grammar.{Blank, space, tab, line-feed, carriage-return, Blanks, String, Items, last, more, Group, empty, full, Member, member}
 use Rattle.grammar.specs.Reading.{afterTurn, thenTurn, itemTurn, itemsAt, groupAt, valueOf, memberAt}
-use Rattle.grammar.proofs.Stands.{Stands, stands-join, stands-head, stands-tail, stands-left, stands-right}
+use Rattle.grammar.specs.Stands.{Stands, Ends}
+use Rattle.grammar.proofs.Stands.{stands-join, stands-head, stands-tail, stands-left, stands-right}
 use Rattle.grammar.proofs.Derived.{Derived, derived, Closed, closed, stands-here, stands-cons, stands-next, Got, got, not-got, got-to, got-map}
 use Rattle.grammar.proofs.Skips.{blanks-sound, blanks-complete, blanks-first}
-use Rattle.grammar.proofs.Numbers.{Ends, ends-below}
+use Rattle.grammar.proofs.Numbers.{ends-below}
 use Rattle.grammar.proofs.Strings.{string-sound, string-complete}
 
 -- ---- sound

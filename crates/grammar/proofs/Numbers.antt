@@ -11,7 +11,8 @@ use Rattle.tokens.specs.Number.{digit, digitsAt, integerAt, fractionAt, skipSig
 use Rattle.tokens.proofs.TextLaws.{cond-elim, within-below, within-above}
 use Rattle.grammar.specs.Grammar.{Between, Digit, Digits, Minus, no-minus, minus, Integer, zero-alone, leading, Fraction, no-fraction, fraction}
 use Rattle.grammar.specs.Grammar.{Sign, no-sign, plus-sign, minus-sign, Exponent, no-exponent, small-e, capital-e, Number, number}
-use Rattle.grammar.proofs.Stands.{Stands, stands-none, stands-join, stands-head, stands-tail, stands-left, stands-right}
+use Rattle.grammar.specs.Stands.{Stands, Ends}
+use Rattle.grammar.proofs.Stands.{stands-none, stands-join, stands-head, stands-tail, stands-left, stands-right}
 use Rattle.grammar.proofs.Derived.{Derived, derived, derived-cons, derived-after, stands-here, stands-cons, stands-nil, stands-next}
 use Rattle.grammar.proofs.Derived.{Got, not-got, got-to, got-map, got-then}
 use Rattle.grammar.proofs.Skips.{between-is, is-between, digits-sound, digits-complete}
@@ -77,13 +78,6 @@ number-sound s i =
     (λ k b. got-then (exponentAt s) (fraction-sound s k) (λ l c. got-map (λ m d. number-of (minus-sound s i) b c d) (exponent-sound s l)))
 
 -- ---- complete
--- a byte that no number goes on with
-pub record Ends (b : ℕ) : Type 0 where
-  pub not-digit : digit b ≡ false
-  pub not-point : b ≡ 0x2E → ⊥
-  pub not-e : b ≡ 0x65 → ⊥
-  pub not-E : b ≡ 0x45 → ⊥
-
 -- every byte below `.`: blanks, the comma, and the 0 past the end
 pub ends-below : (b : ℕ) → b < 0x2E → Ends b
 ends-below b h = record {

@@ -15,7 +15,8 @@ use Rattle.grammar.specs.Skip.{skipStringTurn, skipString, opens, closes
 use Rattle.grammar.specs.Grammar.{Blank, Blanks, Digits, Minus, Integer, Fraction, Sign, Exponent, Number}
 use Rattle.grammar.specs.Grammar.{HexDigit, CodeUnit, Multibyte, Character, Characters, String, Items, Group, Member, AnyValue, Value}
 use Rattle.grammar.specs.Grammar
-use Rattle.grammar.proofs.Stands.{Stands, stands-left, stands-right, stands-head, stands-inside}
+use Rattle.grammar.specs.Stands.{Stands}
+use Rattle.grammar.proofs.Stands.{stands-left, stands-right, stands-head, stands-inside}
 
 -- ---- past a string
 

@@ -13,7 +13,8 @@ use Rattle.tokens.specs.Number.{digit, skipDigits}
 use Rattle.tokens.proofs.TextLaws.{within-is, good-inside, no-blank, skip-on, skip-out}
 use Rattle.tokens.proofs.NumberLaws.{no-digit}
 use Rattle.grammar.specs.Grammar.{Between, Blank, space, tab, line-feed, carriage-return, Blanks, no-blanks, blanks, Digits, no-digits, digits}
-use Rattle.grammar.proofs.Stands.{Stands, stands-none, stands-one, stands-join, stands-head, stands-tail}
+use Rattle.grammar.specs.Stands.{Stands}
+use Rattle.grammar.proofs.Stands.{stands-none, stands-one, stands-join, stands-head, stands-tail}
 use Rattle.grammar.proofs.Derived.{Derived, derived, stands-nil}
 
 -- ---- lists of bytes that are good

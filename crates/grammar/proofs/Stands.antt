@@ -1,4 +1,4 @@
--- A list of bytes that stands in a text from one place up to another.
+-- Laws of lists of bytes that stand in a text.
 use mathlib.Core.Path.{_≡_, refl, sym, ap, subst, _∙_}
 use mathlib.Core.List.{List, [], _∷_, _++_, append-assoc}
 use Prim.Native.Nat.{ℕ, _<_, _+_}
@@ -7,10 +7,7 @@ use native.Mathlib.Numerals.{add-one}
 use lib.ListN.{length, getD, drop, length-append, length-drop}
 use lib.Seq.{drop-cons, drop-drop, drop-append-seam, getD-drop}
 use Rattle.tokens.specs.Text.{byte}
-
-pub record Stands (s : List ℕ) (i : ℕ) (xs : List ℕ) (j : ℕ) : Type 0 where
-  pub end : j ≡ i + length xs
-  pub rest : drop i s ≡ xs ++ drop j s
+use Rattle.grammar.specs.Stands.{Stands}
 
 module _ (s : List ℕ) where
   pub stands-none : (i : ℕ) → Stands s i [] i

@@ -22,7 +22,8 @@ use Rattle.tokens.proofs.StringLaws.{character-escape, character-plain, charact
 use Rattle.grammar.specs.Grammar.{Between, HexDigit, decimal, capital, small, CodeUnit, code-unit, Multibyte, row2, row3, row4, row5, row6, row7, row8, row9}
 use Rattle.grammar.specs.Grammar.{Short, quotation-mark, reverse-solidus, solidus, backspace, form-feed, new-line, return, tabulation}
 use Rattle.grammar.specs.Grammar.{Character, plain, multibyte, short, below, above, surrogates, Characters, no-characters, characters, String, string}
-use Rattle.grammar.proofs.Stands.{Stands, stands-none, stands-one, stands-join, stands-head, stands-tail, stands-left, stands-right}
+use Rattle.grammar.specs.Stands.{Stands}
+use Rattle.grammar.proofs.Stands.{stands-none, stands-one, stands-join, stands-head, stands-tail, stands-left, stands-right}
 use Rattle.grammar.proofs.Derived.{Derived, derived, Closed, closed, derived-cons, derived-after}
 use Rattle.grammar.proofs.Derived.{stands-here, stands-cons, stands-at, stands-first, stands-nil, stands-next, Got, got, not-got, got-to, got-map}
 use Rattle.grammar.proofs.Skips.{or-is, between-is, is-between}
@@ -112,7 +113,7 @@ hex-limit (decimal p) = omega (arith, p .high)
 hex-limit (capital p) = omega (arith, p .high)
 hex-limit (small p) = omega (arith, p .high)
 
-unit-limit : {u : List ℕ} {n : ℕ} → CodeUnit u n → n ≤ 0xFFFF
+pub unit-limit : {u : List ℕ} {n : ℕ} → CodeUnit u n → n ≤ 0xFFFF
 unit-limit (code-unit p q r t) = omega (arith, hex-limit p, hex-limit q, hex-limit r, hex-limit t)
 
 -- a code unit that is no surrogate

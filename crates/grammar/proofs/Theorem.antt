@@ -13,10 +13,11 @@ use Rattle.tokens.specs.Text.{byte, to, skipBlanks}
 use Rattle.tokens.proofs.TextLaws.{no-blank}
 use Rattle.grammar.specs.Grammar.{Blanks, Value, Text, text}
 use Rattle.grammar.specs.Reading.{valueAt, endsText, isJson}
-use Rattle.grammar.proofs.Stands.{Stands, stands-join, stands-left, stands-right}
+use Rattle.grammar.specs.Stands.{Stands, Ends}
+use Rattle.grammar.proofs.Stands.{stands-join, stands-left, stands-right}
 use Rattle.grammar.proofs.Derived.{Derived, derived, stands-same, stands-whole, stands-all, Got, got, not-got}
 use Rattle.grammar.proofs.Skips.{blanks-sound, blanks-complete, blanks-first}
-use Rattle.grammar.proofs.Numbers.{Ends, ends-below}
+use Rattle.grammar.proofs.Numbers.{ends-below}
 use Rattle.grammar.proofs.Groups.{solid-above, blank-ends}
 use Rattle.grammar.proofs.Values.{value-got, value-sound, value-first, value-complete}
 

@@ -14,9 +14,10 @@ use Rattle.tokens.specs.Text.{byte, ascii, to, within, literalAt}
 use Rattle.tokens.proofs.TextLaws.{cond-elim}
 use Rattle.grammar.specs.Grammar.{Between, AnyValue, an-object, an-array, a-number, a-string, a-true, a-false, a-null, Value}
 use Rattle.grammar.specs.Reading.{anyValueAt, valueAt}
-use Rattle.grammar.proofs.Stands.{Stands, stands-none, stands-byte, stands-join, stands-head, stands-tail, stands-inside}
+use Rattle.grammar.specs.Stands.{Stands, Ends}
+use Rattle.grammar.proofs.Stands.{stands-none, stands-byte, stands-join, stands-head, stands-tail, stands-inside}
 use Rattle.grammar.proofs.Derived.{Derived, derived, stands-nil, Got, not-got, got-to, got-map, got-is}
-use Rattle.grammar.proofs.Numbers.{Ends, number-sound, number-first, number-complete}
+use Rattle.grammar.proofs.Numbers.{number-sound, number-first, number-complete}
 use Rattle.grammar.proofs.Strings.{string-sound, string-complete}
 use Rattle.grammar.proofs.Groups.{group-sound, group-first, group-complete, member-sound, member-first, member-complete, First}
 

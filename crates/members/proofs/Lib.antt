@@ -3,4 +3,3 @@ pub mod GatherLaws
 pub mod StepLaws
 pub mod EndLaws
 pub mod ReadLaws
-pub mod Theorem

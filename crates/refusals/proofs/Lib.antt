@@ -1,1 +1,2 @@
 pub mod LeastLaws
+pub mod RuleLaws

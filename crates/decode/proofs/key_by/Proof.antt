@@ -33,16 +33,16 @@ cast-result : tie.Need-cast-result Inv-loop μ-loop
 cast-result c = omega arith
 
 returns : tie.Need-returns Inv-loop μ-loop
-returns c = key-end _ _ _ (streamed-end _ _ _ (c .before .before .next-byte .ensures) (c .enum-told .given .1)) ∙ (c .before .before .before .loop .inv .1)
+returns c = key-end _ _ _ (streamed-end _ _ _ _ (c .before .before .next-byte .ensures) (c .enum-told .given .1)) ∙ (c .before .before .before .loop .inv .1)
 
 mix-requires : tie.Need-mix-requires Inv-loop μ-loop
 mix-requires c κs = search needs
 
 loop-less : tie.Need-loop-less Inv-loop μ-loop
-loop-less c = shorter _ _ _ (streamed-next _ _ _ (c .before .before .before .before .next-byte .ensures) _ _ _ (c .before .before .g .given .1))
+loop-less c = shorter _ _ _ (streamed-next _ _ _ _ (c .before .before .before .before .next-byte .ensures) _ _ _ (c .before .before .g .given .1))
 
 loop-again : tie.Need-loop-again Inv-loop μ-loop
-loop-again c = (omega (arith, (c .mix .ensures)), key-on _ _ _ _ _ (streamed-next _ _ _ (c .before .before .before .before .next-byte .ensures) _ _ _ (c .before .before .g .given .1)) _ (c .mix .ensures) ∙ (c .before .before .before .before .before .loop .inv .1))
+loop-again c = (omega (arith, (c .mix .ensures)), key-on _ _ _ _ _ (streamed-next _ _ _ _ (c .before .before .before .before .next-byte .ensures) _ _ _ (c .before .before .g .given .1)) _ (c .mix .ensures) ∙ (c .before .before .before .before .before .loop .inv .1))
 
 pub key-by-spec : {M : Type 1} → statement M
 key-by-spec =

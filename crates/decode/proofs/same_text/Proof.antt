@@ -39,10 +39,10 @@ enum-told-2 : tie.Need-enum-told-2 Inv-loop μ-loop
 enum-told-2 c = search needs
 
 returns : tie.Need-returns Inv-loop μ-loop
-returns c = both-end _ _ (streamed-end _ _ _ (c .before .before .before .before .before .next-byte .ensures) (c .before .before .enum-told .given .1)) (streamed-end _ _ _ (c .before .before .before .before .next-byte2 .ensures) (c .enum-told2 .given .1)) ∙ (c .before .before .before .before .before .before .loop .inv)
+returns c = both-end _ _ (streamed-end _ _ _ _ (c .before .before .before .before .before .next-byte .ensures) (c .before .before .enum-told .given .1)) (streamed-end _ _ _ _ (c .before .before .before .before .next-byte2 .ensures) (c .enum-told2 .given .1)) ∙ (c .before .before .before .before .before .before .loop .inv)
 
 returns-2 : tie.Need-returns-2 Inv-loop μ-loop
-returns-2 c = left-end _ _ _ _ (streamed-end _ _ _ (c .before .before .before .before .before .before .next-byte .ensures) (c .before .before .before .enum-told .given .1)) (streamed-next _ _ _ (c .before .before .before .before .before .next-byte2 .ensures) _ _ _ (c .before .h .given .1)) ∙ (c .before .before .before .before .before .before .before .loop .inv)
+returns-2 c = left-end _ _ _ _ (streamed-end _ _ _ _ (c .before .before .before .before .before .before .next-byte .ensures) (c .before .before .before .enum-told .given .1)) (streamed-next _ _ _ _ (c .before .before .before .before .before .next-byte2 .ensures) _ _ _ (c .before .h .given .1)) ∙ (c .before .before .before .before .before .before .before .loop .inv)
 
 enum-known-h-2 : tie.Need-enum-known-h-2 Inv-loop μ-loop
 enum-known-h-2 c = search needs
@@ -51,16 +51,16 @@ enum-told-3 : tie.Need-enum-told-3 Inv-loop μ-loop
 enum-told-3 c = search needs
 
 returns-3 : tie.Need-returns-3 Inv-loop μ-loop
-returns-3 c = right-end _ _ _ _ (streamed-next _ _ _ (c .before .before .before .before .before .before .next-byte .ensures) _ _ _ (c .before .before .before .g .given .1)) (streamed-end _ _ _ (c .before .before .before .before .before .next-byte2 .ensures) (c .enum-told3 .given .1)) ∙ (c .before .before .before .before .before .before .before .loop .inv)
+returns-3 c = right-end _ _ _ _ (streamed-next _ _ _ _ (c .before .before .before .before .before .before .next-byte .ensures) _ _ _ (c .before .before .before .g .given .1)) (streamed-end _ _ _ _ (c .before .before .before .before .before .next-byte2 .ensures) (c .enum-told3 .given .1)) ∙ (c .before .before .before .before .before .before .before .loop .inv)
 
 loop-less : tie.Need-loop-less Inv-loop μ-loop
-loop-less c = shorter _ _ _ (streamed-next _ _ _ (c .before .before .before .before .before .before .before .before .next-byte .ensures) _ _ _ (c .before .before .before .before .before .g .given .1))
+loop-less c = shorter _ _ _ (streamed-next _ _ _ _ (c .before .before .before .before .before .before .before .before .next-byte .ensures) _ _ _ (c .before .before .before .before .before .g .given .1))
 
 loop-again : tie.Need-loop-again Inv-loop μ-loop
-loop-again c = both-on _ _ _ _ (streamed-next _ _ _ (c .before .before .before .before .before .before .before .before .next-byte .ensures) _ _ _ (c .before .before .before .before .before .g .given .1)) _ _ (streamed-next _ _ _ (c .before .before .before .before .before .before .before .next-byte2 .ensures) _ _ _ (c .before .before .h2 .given .1)) (c .if1 .taken) ∙ (c .before .before .before .before .before .before .before .before .before .loop .inv)
+loop-again c = both-on _ _ _ _ (streamed-next _ _ _ _ (c .before .before .before .before .before .before .before .before .next-byte .ensures) _ _ _ (c .before .before .before .before .before .g .given .1)) _ _ (streamed-next _ _ _ _ (c .before .before .before .before .before .before .before .next-byte2 .ensures) _ _ _ (c .before .before .h2 .given .1)) (c .if1 .taken) ∙ (c .before .before .before .before .before .before .before .before .before .loop .inv)
 
 returns-4 : tie.Need-returns-4 Inv-loop μ-loop
-returns-4 c = both-not _ _ _ _ (streamed-next _ _ _ (c .before .before .before .before .before .before .before .before .next-byte .ensures) _ _ _ (c .before .before .before .before .before .g .given .1)) _ _ (streamed-next _ _ _ (c .before .before .before .before .before .before .before .next-byte2 .ensures) _ _ _ (c .before .before .h2 .given .1)) (c .if1 .left) ∙ (c .before .before .before .before .before .before .before .before .before .loop .inv)
+returns-4 c = both-not _ _ _ _ (streamed-next _ _ _ _ (c .before .before .before .before .before .before .before .before .next-byte .ensures) _ _ _ (c .before .before .before .before .before .g .given .1)) _ _ (streamed-next _ _ _ _ (c .before .before .before .before .before .before .before .next-byte2 .ensures) _ _ _ (c .before .before .h2 .given .1)) (c .if1 .left) ∙ (c .before .before .before .before .before .before .before .before .before .loop .inv)
 
 pub same-text-spec : {M : Type 1} → statement M
 same-text-spec =

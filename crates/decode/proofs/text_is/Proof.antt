@@ -33,7 +33,7 @@ enum-told c = search needs
 
 returns : tie.Need-returns Inv-loop μ-loop
 returns c =
-    is-end _ _ _ (streamed-end _ _ _ (c .before .before .next-byte .ensures) (c .enum-told .given .1)) (c .before .before .before .loop .inv .0) ∙
+    is-end _ _ _ (streamed-end _ _ _ _ (c .before .before .next-byte .ensures) (c .enum-told .given .1)) (c .before .before .before .loop .inv .0) ∙
     (c .before .before .before .loop .inv .1)
 
 shared-slice-read-if2 : tie.Need-shared-slice-read-if2 Inv-loop μ-loop
@@ -45,22 +45,22 @@ add-i c = omega arith
 loop-less : tie.Need-loop-less Inv-loop μ-loop
 loop-less c =
     shorter _ _ _
-    (streamed-next _ _ _ (c .before .before .before .before .before .before .next-byte .ensures) _ _ _ (c .before .before .before .before .g .given .1))
+    (streamed-next _ _ _ _ (c .before .before .before .before .before .before .next-byte .ensures) _ _ _ (c .before .before .before .before .g .given .1))
 
 loop-again : tie.Need-loop-again Inv-loop μ-loop
 loop-again c =
-    let e = streamed-next _ _ _ (c .before .before .before .before .before .before .next-byte .ensures) _ _ _ (c .before .before .before .before .g .given .1) in
+    let e = streamed-next _ _ _ _ (c .before .before .before .before .before .before .next-byte .ensures) _ _ _ (c .before .before .before .before .g .given .1) in
     (omega arith, is-on _ _ _ _ _ e (c .before .before .if1 .taken) (c .if2 .taken) ∙ (c .before .before .before .before .before .before .before .loop .inv .1))
 
 returns-2 : tie.Need-returns-2 Inv-loop μ-loop
 returns-2 c =
     is-not _ _ _ _ _
-    (streamed-next _ _ _ (c .before .before .before .before .before .before .next-byte .ensures) _ _ _ (c .before .before .before .before .g .given .1))
+    (streamed-next _ _ _ _ (c .before .before .before .before .before .before .next-byte .ensures) _ _ _ (c .before .before .before .before .g .given .1))
     (c .before .before .if1 .taken) (c .if2 .left) ∙ (c .before .before .before .before .before .before .before .loop .inv .1)
 
 returns-3 : tie.Need-returns-3 Inv-loop μ-loop
 returns-3 c =
-    is-over _ _ _ _ _ (streamed-next _ _ _ (c .before .before .before .before .next-byte .ensures) _ _ _ (c .before .before .g .given .1)) (c .if1 .left)
+    is-over _ _ _ _ _ (streamed-next _ _ _ _ (c .before .before .before .before .next-byte .ensures) _ _ _ (c .before .before .g .given .1)) (c .if1 .left)
     ∙ (c .before .before .before .before .before .loop .inv .1)
 
 pub text-is-spec : {M : Type 1} → statement M

@@ -11,7 +11,7 @@ use Rattle.fields.specs.Values.{hasType}
 use Rattle.fields.specs.Names.{Core, typeAt}
 use Rattle.fields.specs.Extensions.{memberValue}
 use Rattle.objects.specs.Fields.{Value, fieldOf, numberIn, valueFrom, mistyped}
-use Rattle.claims.proofs.RuleLaws.{or-left, or-right}
+use Rattle.accepted.proofs.Tests.{or-left, or-right}
 
 pub data Each {A : Type 0} (P : A → Type 0) : List A → Type 0 where
   nothing : Each P []

@@ -1,13 +1,13 @@
 -- An accepted recording is a well-formed table, whose rows are those that its metadata give.
 use Prim.Native.Nat.{ℕ, _+_, _-_, _≤_}
 use mathlib.Core.Path.{_≡_, refl, sym, _∙_}
-use mathlib.Core.Bool.{true, false, not, _||_, false≢true}
+use mathlib.Core.Bool.{Bool, true, false, cond, not, _||_, false≢true}
 use mathlib.Core.List.{List, [], _∷_, map}
 use mathlib.Core.Option.{Option, none, some}
 use native.Mathlib.Omega.{arith}
 use lib.ListN.{length, drop, length-take, length-drop}
 use lib.Dec.{eqb, ltb}
-use borrow.Author.Tests.{le-leb, ltb-false}
+use borrow.Author.Tests.{le-leb, ltb-false, eqb-true}
 use Rattle.limits.specs.Limits.{metadata, dataset, channels}
 use Rattle.tokens.specs.Text.{within}
 use Rattle.tokens.specs.Lists.{any}
@@ -21,8 +21,10 @@ use Rattle.fields.specs.declared.AnnotationField.the-variants as A
 use Rattle.fields.specs.Values.{partOf, hasType}
 use Rattle.fields.specs.Names.{Core, globals, captures, annotations, coreAt, typeAt}
 use Rattle.fields.specs.Extensions.{memberValue}
-use Rattle.table.specs.Table.{textOk, wellFormed}
-use Rattle.layout.specs.Layout.{Contents, unordered, notWhole, outside, tooMany, layoutRefusal, layoutAnswer, capturesAfter, annotationsAfter}
+use Rattle.table.specs.Memory.{written}
+use Rattle.table.specs.Rows.{captureNumbers, annotationNumbers, flat, capturesOf, annotationsOf}
+use Rattle.table.specs.Table.{refused, textOk, wellFormed}
+use Rattle.layout.specs.Layout.{Contents, unordered, notWhole, outside, tooMany, capturesIn, annotationsIn, summaryIn, summaryOr, layoutRefusal, layoutAnswer, capturesAfter, annotationsAfter}
 use Rattle.layout.specs.Claim.{labelsOk, placesOk, LaidOut}
 use Rattle.layout.proofs.JudgeLaws.{passed}
 use Rattle.layout.proofs.Theorem.{laid-out}
@@ -31,10 +33,26 @@ use Rattle.objects.specs.Global.{inGlobal, otherVersion, otherDatatype, badChan
 use Rattle.objects.specs.Capture.{badDatetime}
 use Rattle.objects.specs.Annotation.{inAnnotation, annotationIn, textPlace, textLength}
 use Rattle.recording.specs.File.{named, elementsIn, fileOf, contentsOf}
-use Rattle.recording.specs.Reading.{badLength, notJson, badMembers, misshapen, inFile, rulesOf, contents, readRefusal, readAnswer, capturesRead, annotationsRead}
-use Rattle.claims.proofs.RuleLaws.{or-left, or-right, and-true}
-use Rattle.claims.proofs.ValueLaws.{each-all, values-hold}
-use Rattle.claims.proofs.Demand1.{read-number}
+use Rattle.recording.specs.Reading.{badLength, notJson, badMembers, misshapen, inFile, rulesOf, readRules, contents, judgement, readRefusal, readAnswer, capturesRead, annotationsRead}
+use Rattle.accepted.proofs.Tests.{or-left, or-right, and-true}
+use Rattle.accepted.proofs.ValueLaws.{each-all, values-hold}
+
+-- ---- the number of an answer is the refusal
+pub or-number : (n : ℕ) (k : Contents) (d : ℕ) → summaryOr n k d .refusal ≡ n
+unfolding summaryIn
+or-number n k d = go (eqb n 0) refl
+  where
+    go : (b : Bool) → eqb n 0 ≡ b → cond b (summaryIn k d) (refused n) .refusal ≡ n
+    go true e = sym (eqb-true n 0 e)
+    go false e = refl
+
+pub read-number : (s : List ℕ) (d : ℕ) (caps notes : List ℕ) → readAnswer s d caps notes .refusal ≡ readRefusal s d caps notes
+unfolding readAnswer
+read-number s d caps notes = or-number (readRefusal s d caps notes) (contents s) d
+
+pub judged-number : (s : List ℕ) (d : ℕ) → judgement s d .refusal ≡ lowest (readRules s d)
+unfolding judgement
+judged-number s d = or-number (lowest (readRules s d)) (contents s) d
 
 -- ---- text places
 -- a part with a byte lies inside the text
@@ -184,3 +202,19 @@ module _ (s : List ℕ) (d : ℕ) (caps notes : List ℕ) (z : readAnswer s d ca
 
   pub accepted-laid : LaidOut (contents s) d caps notes
   accepted-laid = laid
+
+  -- the summary and rows are those that the metadata give, from the front of the lent memory
+  pub summary-is : readAnswer s d caps notes ≡ summaryIn (contents s) d
+  summary-is = sym answer-same ∙ laid .answer
+
+  pub captures-are : capturesOf (readAnswer s d caps notes) (capturesRead s d caps notes) ≡ capturesIn (contents s) d
+  captures-are = rw (← answer-same, ← captures-same) (laid .captureRows)
+
+  pub annotations-are : annotationsOf (readAnswer s d caps notes) (annotationsRead s d caps notes) ≡ annotationsIn (contents s) d
+  annotations-are = rw (← answer-same, ← annotations-same) (laid .annotationRows)
+
+  pub captures-written : capturesRead s d caps notes ≡ written (flat captureNumbers (capturesOf (readAnswer s d caps notes) (capturesRead s d caps notes))) caps
+  captures-written = rw captures-are (unfold capturesRead in rw zero-is)
+
+  pub annotations-written : annotationsRead s d caps notes ≡ written (flat annotationNumbers (annotationsOf (readAnswer s d caps notes) (annotationsRead s d caps notes))) notes
+  annotations-written = rw annotations-are (unfold annotationsRead in rw zero-is)

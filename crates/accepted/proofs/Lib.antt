@@ -1,0 +1,4 @@
+pub mod Tests
+pub mod ValueLaws
+pub mod Accepted
+pub mod RowLaws

@@ -1,0 +1,10 @@
+pub mod ValueKinds
+pub mod Places
+pub mod Nodes
+pub mod Refusal3
+pub mod Shape
+pub mod FieldRules
+pub mod Plainly
+pub mod Extension
+pub mod Agrees
+pub mod Texts

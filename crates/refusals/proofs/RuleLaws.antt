@@ -1,0 +1,84 @@
+-- The lowest of rules in the order of their numbers is the smallest number whose condition holds.
+use Prim.Native.Nat.{ℕ, _≤_, _<_}
+use mathlib.Core.Path.{_≡_, refl, sym, _∙_}
+use mathlib.Core.Logic.{inl, inr, ⊎-elim}
+use mathlib.Core.Bool.{Bool, true, false, cond, not, _&&_, false≢true}
+use mathlib.Core.List.{List, [], _∷_}
+use native.Mathlib.Omega.{arith}
+use lib.Dec.{eqb, ltb}
+use borrow.Author.Tests.{ltb-true, ne-eqb}
+use Rattle.refusals.specs.Refusals.{Rule, rule, lowest, noneHolds, Holds, Smallest, ByRules}
+
+-- the numbers are above n and rise
+unfoldable pub rising : ℕ → List Rule → Bool
+rising n [] = true
+rising n (r ∷ rs) = ltb n (r .number) && rising (r .number) rs
+
+rises : (n : ℕ) (r : Rule) (rs : List Rule) → rising n (r ∷ rs) ≡ true → (n < r .number) × (rising (r .number) rs ≡ true)
+unfolding rising
+rises n r rs e = go (ltb n (r .number)) refl e where
+  go : (b : Bool) → ltb n (r .number) ≡ b → b && rising (r .number) rs ≡ true → (n < r .number) × (rising (r .number) rs ≡ true)
+  go true q f = (ltb-true n (r .number) q, f)
+  go false q f = absurd (false≢true f)
+
+above : (n : ℕ) (rs : List Rule) → rising n rs ≡ true → (m : ℕ) → Holds m rs → n < m
+unfolding Holds
+above n [] e m h = absurd h
+above n (r ∷ rs) e m h =
+    let p = rises n r rs e in
+    ⊎-elim (λ q. omega (arith, p .0, q .0)) (λ q. omega (arith, p .0, above (r .number) rs (p .1) m q)) h
+
+-- acceptance
+accepts-none : (n : ℕ) (rs : List Rule) → rising n rs ≡ true → eqb (lowest rs) 0 ≡ noneHolds rs
+unfolding lowest noneHolds
+accepts-none n [] e = refl
+accepts-none n (r ∷ rs) e = go (r .holds) (accepts-none (r .number) rs (rises n r rs e .1))
+  where
+    go : (b : Bool) → eqb (lowest rs) 0 ≡ noneHolds rs → eqb (cond b (r .number) (lowest rs)) 0 ≡ not b && noneHolds rs
+    go true h = ne-eqb (r .number) 0 (λ z. omega (arith, z, rises n r rs e .0))
+    go false h = h
+
+-- a refusal
+smallest : (n : ℕ) (rs : List Rule) → rising n rs ≡ true → (lowest rs ≡ 0 → ⊥) → Smallest (lowest rs) rs
+unfolding lowest Holds
+smallest n [] e h = absurd (h refl)
+smallest n (r ∷ rs) e h = go (r .holds) refl h (smallest (r .number) rs (rises n r rs e .1))
+  where
+    go : (b : Bool) → r .holds ≡ b → (cond b (r .number) (lowest rs) ≡ 0 → ⊥) → ((lowest rs ≡ 0 → ⊥) → Smallest (lowest rs) rs) → Smallest (cond b (r .number) (lowest rs)) (r ∷ rs)
+    go true q k f = record {
+      holds = inl (refl, q);
+      least = λ m. ⊎-elim (λ p. omega (arith, p .0)) (λ p. omega (arith, above (r .number) rs (rises n r rs e .1) m p));
+    }
+    go false q k f = record {
+      holds = inr (f k .holds);
+      least = λ m. ⊎-elim (λ p. absurd (false≢true (sym q ∙ p .1))) (λ p. f k .least m p);
+    }
+
+pub lowest-by : (n : ℕ) (rs : List Rule) → rising n rs ≡ true → ByRules (lowest rs) rs
+lowest-by n rs e = record { exactly = accepts-none n rs e; smallest = smallest n rs e }
+
+-- ---- lists of rules that agree as far as those before them do not hold
+pub data Agree : List Rule → List Rule → Type 0 where
+  over : Agree [] []
+  step : {n : ℕ} {b c : Bool} {rs ks : List Rule} → b ≡ c → (c ≡ false → Agree rs ks) → Agree (rule n b ∷ rs) (rule n c ∷ ks)
+
+pub agree-lowest : {rs ks : List Rule} → Agree rs ks → lowest rs ≡ lowest ks
+unfolding lowest
+agree-lowest over = refl
+agree-lowest (step {n} {b} {c} {rs} {ks} e f) = rw e (go c refl (λ h. agree-lowest (f h))) where
+  go : (t : Bool) → c ≡ t → (c ≡ false → lowest rs ≡ lowest ks) → cond c n (lowest rs) ≡ cond c n (lowest ks)
+  go true h g = rw h
+  go false h g = rw h (g h)
+
+-- ---- the first rule
+pub skip : (n : ℕ) (b : Bool) (rs : List Rule) → b ≡ false → lowest (rule n b ∷ rs) ≡ lowest rs
+unfolding lowest
+skip n b rs e = rw e
+
+pub stop : (n : ℕ) (b : Bool) (rs : List Rule) → b ≡ true → lowest (rule n b ∷ rs) ≡ n
+unfolding lowest
+stop n b rs e = rw e
+
+-- rules that rise from n on answer no number up to n but 0
+pub never : (m n : ℕ) → 0 < m → m ≤ n → (rs : List Rule) → rising n rs ≡ true → lowest rs ≡ m → ⊥
+never m n h l rs e f = let p = above n rs e (lowest rs) (smallest n rs e (λ z. omega arith) .holds) in omega arith
