@@ -6,7 +6,7 @@ use first_line::FirstLine;
 use first_line::first_line;
 use limits::Limits;
 use listing::listing;
-use recording::read;
+use reader::read;
 use table::Annotation;
 use table::Capture;
 
@@ -29,13 +29,22 @@ const WORD: usize = 8;
 fn main() {
     let mut input = [0u8; INPUT];
     let n = io::read_full(0, &mut input);
-    if n < INPUT {
+    if is_short(n) {
         if is_unread() {
             io::write_all(2, b"burst_list: the input could not be read to its end\n");
             return;
         }
     }
     run(&input[..n]);
+}
+
+// An input of n bytes is no longer than a first line and the longest metadata.
+fn is_short(n: usize) -> bool {
+    let limits = Limits::new();
+    if n < FIRST_LINE {
+        return true;
+    }
+    n - FIRST_LINE <= limits.metadata
 }
 
 // The input does not end here: another read gives a byte or fails.
@@ -67,7 +76,7 @@ fn list(metadata: &[u8], d: u64) {
         refuse(l.refusal);
         return;
     }
-    print_first(&out, l.bytes as usize);
+    print_first(&out, l.count as usize);
 }
 
 // Prints the first n bytes.

@@ -1,7 +1,7 @@
 // Judges the JSON text on standard input: prints `good`, or `refused` and document 01's number. Where the input can't be read to its
 // end or the answer can't be written, it says so on standard error.
-use json::Judged;
-use json::judge;
+use json_judge::Judged;
+use json_judge::judge;
 use limits::Limits;
 
 // One byte more than the longest text, to tell a longer one.
@@ -20,7 +20,8 @@ fn main() {
         print(b"refused 1\n");
         return;
     }
-    if Limits::METADATA < n {
+    let limits = Limits::new();
+    if limits.metadata < n {
         print(b"refused 1\n");
         return;
     }

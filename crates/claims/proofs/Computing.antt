@@ -8,21 +8,21 @@ use Prim.Native.Nat.{ℕ, zero, suc, _+_, _-_}
 use Prim.Native.String.{String}
 use lib.ListN.{length}
 use lib.Dec.{eqb, leb, ltb}
-use Rattle.tokens.specs.Text.{byte, ascii, skipBlanks, skipWhile}
-use Rattle.tokens.specs.Group.{colonAt}
-use Rattle.tokens.specs.declared.Read.{Read}
-use Rattle.tokens.specs.declared.Read.the-variants as R
-use Rattle.grammar.specs.Skip.{skipString, opens, closes, skipOpenSteps, skipOpen, scalar, skipValue}
-use Rattle.members.specs.declared.Member.{Member}
-use Rattle.members.specs.declared.Element.{Element}
-use Rattle.members.specs.declared.MemberStep.the-variants as M
-use Rattle.members.specs.declared.ElementStep.the-variants as E
-use Rattle.members.specs.Gather.{Step, found, stop, gather}
-use Rattle.members.specs.Members.{nextItem, memberTo, memberStep, elementStep, memberFound, elementFound, membersAt, elementsAt}
-use Rattle.json.specs.Names.{badArray, badObject, badMembersAt}
-use Rattle.objects.specs.Fields.{Value, Field, fieldOf, given}
-use Rattle.recording.specs.File.{topAt, namedFrom, isObject, isArray, allObjects, File, fileOf}
-use Rattle.recording.specs.Reading.{misshapen}
+use Rattle.json_blocks.specs.TextBytes.{byte, ascii, skipBlanks, skipWhile}
+use Rattle.json_blocks.specs.Group.{colonAt}
+use Rattle.json_blocks.specs.declared.Read.{Read}
+use Rattle.json_blocks.specs.declared.Read.the-variants as R
+use Rattle.json_grammar.specs.Skip.{skipString, opens, closes, skipOpenSteps, skipOpen, tokenByte, skipValue}
+use Rattle.json_walk.specs.declared.Member.{Member}
+use Rattle.json_walk.specs.declared.Element.{Element}
+use Rattle.json_walk.specs.declared.MemberStep.the-variants as M
+use Rattle.json_walk.specs.declared.ElementStep.the-variants as E
+use Rattle.json_walk.specs.Gather.{GatherStep, found, stop, gather}
+use Rattle.json_walk.specs.Members.{nextItem, memberTo, memberStep, elementStep, memberFound, elementFound, membersAt, elementsAt}
+use Rattle.json_judge.specs.MemberNames.{badArray, badObject, badMembersAt}
+use Rattle.sigmf_objects.specs.Fields.{Value, Field, fieldOf, given}
+use Rattle.reader.specs.File.{topAt, namedFrom, isObject, isArray, allObjects, File, fileOf}
+use Rattle.reader.specs.Reading.{misshapen}
 
 -- n is computed first
 unfoldable pub strictly : {A : Type 0} → ℕ → (ℕ → A) → A
@@ -55,18 +55,18 @@ open-is (suc fuel) s n at = strictly-is at _ ∙ strictly-is n _ ∙ ap (λ (go 
 unfoldable pub valueEnd : List ℕ → ℕ → ℕ
 valueEnd s at =
     cond (eqb (byte s at) 0x22) (skipString s (at + 1))
-    (cond (opens (byte s at)) (openSteps (suc (length s)) s 1 (at + 1)) (skipWhile scalar s at))
+    (cond (opens (byte s at)) (openSteps (suc (length s)) s 1 (at + 1)) (skipWhile tokenByte s at))
 
 value-is : (s : List ℕ) (at : ℕ) → valueEnd s at ≡ skipValue s at
 unfolding valueEnd skipValue skipOpen
 value-is s at = rw (open-is (suc (length s)) s 1 (at + 1))
 
 -- ---- members
-abbrev valueTo : List ℕ → ℕ → ℕ → Read → Step Member
+abbrev valueTo : List ℕ → ℕ → ℕ → Read → GatherStep Member
 valueTo s at e (R.To v) = strictly (v .at) (λ v. strictly (valueEnd s v) (λ w. strictly (nextItem s w) (λ j. found (record { name = at + 1; quote = e - 1; value = v; end = w }) j)))
 valueTo s at e R.Bad = stop
 
-unfoldable pub nextMember : List ℕ → ℕ → Step Member
+unfoldable pub nextMember : List ℕ → ℕ → GatherStep Member
 nextMember s at = strictly at (λ i. cond (eqb (byte s i) 0x22) (strictly (skipString s (i + 1)) (λ e. valueTo s i e (colonAt s e))) stop)
 
 value-to : (s : List ℕ) (at e : ℕ) (r : Read) → valueTo s at e r ≡ memberFound (memberTo s at e r)
@@ -84,7 +84,7 @@ member-is s at = strictly-is at _ ∙ go (eqb (byte s at) 0x22)
     go false = refl
 
 -- ---- elements
-unfoldable pub nextElement : List ℕ → ℕ → Step Element
+unfoldable pub nextElement : List ℕ → ℕ → GatherStep Element
 nextElement s at = strictly at (λ i. strictly (valueEnd s i) (λ e. cond (ltb i e) (strictly (nextItem s e) (λ j. found (record { at = i; end = e }) j)) stop))
 
 element-is : (s : List ℕ) (at : ℕ) → nextElement s at ≡ elementFound (elementStep s at)
@@ -105,11 +105,11 @@ elementsOf s at = gather s (nextElement s) (skipBlanks s (at + 1))
 
 members-are : (s : List ℕ) (at : ℕ) → membersAt s at ≡ membersOf s at
 unfolding membersOf
-members-are s at = ap (λ (f : ℕ → Step Member). gather s f (skipBlanks s (at + 1))) (λ i k. sym (member-is s k) i)
+members-are s at = ap (λ (f : ℕ → GatherStep Member). gather s f (skipBlanks s (at + 1))) (λ i k. sym (member-is s k) i)
 
 elements-are : (s : List ℕ) (at : ℕ) → elementsAt s at ≡ elementsOf s at
 unfolding elementsOf
-elements-are s at = ap (λ (f : ℕ → Step Element). gather s f (skipBlanks s (at + 1))) (λ i k. sym (element-is s k) i)
+elements-are s at = ap (λ (f : ℕ → GatherStep Element). gather s f (skipBlanks s (at + 1))) (λ i k. sym (element-is s k) i)
 
 -- ---- what the definitions say of a text s, with given walks
 module _ (s : List ℕ) (ms : ℕ → List Member) (es : ℕ → List Element) where

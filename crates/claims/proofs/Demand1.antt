@@ -10,51 +10,53 @@ use borrow.Author.Tests.{ne-eqb}
 use Rattle.limits.specs.Limits.{nesting}
 use Rattle.refusals.specs.Refusals.{Rule, rule, lowest, ByRules}
 use Rattle.refusals.proofs.RuleLaws.{rising, lowest-by}
-use Rattle.grammar.specs.Grammar.{Text}
-use Rattle.grammar.specs.Reading.{isJson}
-use Rattle.grammar.proofs.Theorem.{json-is-grammar}
-use Rattle.json.specs.Judged.{badMembers, judgeRules}
+use Rattle.json_grammar.specs.Grammar.{Text}
+use Rattle.json_grammar.specs.ByPlace.{isJson}
+use Rattle.json_grammar.proofs.Theorem.{json-is-grammar}
+use Rattle.json_judge.specs.Judged.{badMembers, judgeRules}
+use Rattle.table.specs.declared.Place.{Place}
 use Rattle.table.specs.declared.Summary.{Summary}
-use Rattle.table.specs.Rows.{captureWidth, annotationWidth, annotationAt, annotationsOf}
+use Rattle.table.specs.Rows.{captureWidth, annotationWidth, annotationAt, annotationsOf, Table}
 use Rattle.table.specs.Table.{wellFormed}
 use Rattle.table.specs.Locate.{isSample, locateAnswer}
 use Rattle.table.proofs.TableLaws.{formed}
-use Rattle.layout.specs.Layout.{Contents, layoutRules, summaryOr, judgedLayout, layoutRefusal, layoutAnswer, capturesAfter, annotationsAfter}
-use Rattle.layout.proofs.Theorem.{answer-number}
-use Rattle.cutting.specs.Pieces.{pieceWidth, piecesIn, inside, piecesAnswer}
-use Rattle.cutting.specs.Cut.{cut, cutSummary, cutIn, cutAnswer}
-use Rattle.cutting.specs.Copy.{bytesIn, copyAnswer}
-use Rattle.labels.specs.Text.{absent, part, stands, textGood}
-use Rattle.labels.specs.Label.{Found, none, found, labelOf, labelAnswer, labelsOk}
-use Rattle.labels.specs.Label.{refused as notFound}
+use Rattle.reader_layout.specs.Layout.{Contents, layoutRules, summaryOr, judgedLayout, layoutRefusal, layoutAnswer, capturesAfter, annotationsAfter}
+use Rattle.reader_layout.proofs.Theorem.{answer-number}
+use Rattle.table_pieces.specs.Pieces.{pieceWidth, piecesIn, inside, piecesAnswer}
+use Rattle.table_cuts.specs.Cut.{cut, cutSummary, cutIn, cutAnswer}
+use Rattle.table_pieces.specs.Copy.{bytesIn, copyAnswer}
+use Rattle.table.specs.Place.{absent}
+use Rattle.listing_labels.specs.Text.{part, stands, textGood}
+use Rattle.listing_labels.specs.Label.{Found, noLabel, labelFound, labelOf, labelAnswer, labelsOk}
+use Rattle.listing_labels.specs.Label.{labelRefused}
 use Rattle.listing.specs.Listing.{listingOf, listingAnswer}
-use Rattle.recording.specs.Reading.{readRules, contents, judgement, readRefusal, readAnswer, capturesRead, annotationsRead}
-use Rattle.accepted.proofs.Accepted.{or-number, read-number}
-use Rattle.derived.specs.Derived.{top}
-use Rattle.derived.specs.Rules.{badNode}
-use Rattle.derived.proofs.Refusal3.{bad-same}
-use Rattle.export_listing.specs.Label.{placed, labelled}
-use Rattle.claims.specs.Demand1.{Kind, Call, numberOf, Refuses, RefusesBy, summaries, places, counts, labels, listings, JudgedBy, judging, reading, summing, laying, layRules, locateRules, locating, labelRules, labelling, labellingPlace, piecesRules, piecing, cutRules, cutting, copyRules, copying, listingRules, listing, OfTable, Demand1}
+use Rattle.reader.specs.Reading.{readRules, contents, judgedRecording, readRefusal, readAnswer, capturesRead, annotationsRead}
+use Rattle.claims_accepted.proofs.Accepted.{or-number, read-number}
+use Rattle.claims_derived.specs.Derived.{top}
+use Rattle.claims_derived.specs.Rules.{badNode}
+use Rattle.claims_derived.proofs.Refusal3.{bad-same}
+use Rattle.export_listing.specs.LabelPlace.{labelledAt, labelled}
+use Rattle.claims.specs.Demand1.{AnswerKind, EntryCall, answerNumber, Refuses, RefusesBy, summaries, places, counts, labels, JudgedBy, judging, reading, summing, laying, layRules, locateRules, locating, labelRules, labelling, labellingPlace, piecesRules, piecing, cutRules, cutting, copyRules, copying, listingRules, listing, OfTable, Demand1}
 
 -- ---- answers by rules
 -- the number is the lowest of the rules, and stands alone unless it is 0
-record By {A : Type 0} (k : Kind A) (rs : List Rule) (x : A) : Type 0 where
+record By {A : Type 0} (k : AnswerKind A) (rs : List Rule) (x : A) : Type 0 where
   number : k .number x ≡ lowest rs
   alone : (k .number x ≡ 0 → ⊥) → x ≡ k .zeros (k .number x)
 
 -- a call that answers so, by rules in the order of their numbers
-refuses : {A : Type 0} (c : Call A) (rs : List Rule) → By (c .kind) rs (c .answer) → rising 0 rs ≡ true → ((numberOf c ≡ 0 → ⊥) → c .after ≡ c .before) → RefusesBy rs c
+refuses : {A : Type 0} (c : EntryCall A) (rs : List Rule) → By (c .kind) rs (c .answer) → rising 0 rs ≡ true → ((answerNumber c ≡ 0 → ⊥) → c .after ≡ c .before) → RefusesBy rs c
 refuses c rs b o k = record { number = subst (λ (n : ℕ). ByRules n rs) (sym (b .number)) (lowest-by 0 rs o); refusal = record { alone = b .alone; keeps = k } }
 
 -- a stage refuses with its number, or leaves the answer to what follows
-module _ {A : Type 0} (k : Kind A) (its : (n : ℕ) → k .number (k .zeros n) ≡ n) where
+module _ {A : Type 0} (k : AnswerKind A) (its : (n : ℕ) → k .number (k .zeros n) ≡ n) where
   stage : (b c : Bool) → not b ≡ c → (x : A) (n : ℕ) (rs : List Rule) → (b ≡ true → By k rs x) → By k (rule n c ∷ rs) (cond b x (k .zeros n))
   unfolding lowest
   stage true c e x n rs f = record { number = f refl .number ∙ (rw (sym e)); alone = f refl .alone }
   stage false c e x n rs f = record { number = its n ∙ (rw (sym e)); alone = λ _. ap (k .zeros) (sym (its n)) }
 
 -- an acceptance is no refusal
-accepted : {A : Type 0} (k : Kind A) (x : A) → k .number x ≡ 0 → By k [] x
+accepted : {A : Type 0} (k : AnswerKind A) (x : A) → k .number x ≡ 0 → By k [] x
 unfolding lowest
 accepted k x e = record { number = e; alone = λ h. absurd (h e) }
 
@@ -101,7 +103,7 @@ or-alone n k d h =
     rw (ne-eqb n 0 (λ z. h (e ∙ z)))
 
 judge : (s : List ℕ) (d : ℕ) → Refuses (judging s d)
-unfolding judgement
+unfolding judgedRecording
 judge s d = record { alone = or-alone (lowest (readRules s d)) (contents s) d; keeps = λ _. refl }
 
 read : (s : List ℕ) (d : ℕ) (caps notes : List ℕ) → Refuses (reading s d caps notes)
@@ -126,81 +128,78 @@ module _ (k : Contents) (d : ℕ) where
       (λ h. both-kept (kept _ _ _ (λ z. h (answer-number k d caps notes ∙ z))) (kept _ _ _ (λ z. h (answer-number k d caps notes ∙ z))))
 
 -- ---- of any table
-module _ (t : Summary) (caps notes : List ℕ) where
+module _ (t : Table) where
   abbrev well : Bool
-  well = wellFormed t caps notes
+  well = wellFormed t
 
-  locate : (i : ℕ) → RefusesBy (locateRules t caps notes i) (locating t caps notes i)
+  locate : (i : ℕ) → RefusesBy (locateRules t i) (locating t i)
   unfolding locateAnswer rising
-  locate i = refuses (locating t caps notes i) (locateRules t caps notes i)
-      (stage places (λ n. refl) well _ refl _ 18 _ (λ _. stage places (λ n. refl) (isSample t i) _ refl _ 19 [] (λ _. accepted places _ refl))) refl (λ _. refl)
+  locate i = refuses (locating t i) (locateRules t i)
+      (stage places (λ n. refl) well _ refl _ 18 _ (λ _. stage places (λ n. refl) (isSample (t .summary) i) _ refl _ 19 [] (λ _. accepted places _ refl))) refl (λ _. refl)
 
   -- the label of one annotation: absent, or it stands, or it doesn't
-  label-by : (s : List ℕ) (n : ℕ) → By labels (labelRules t caps notes s n) (labelAnswer t caps notes s n)
+  label-by : (s : List ℕ) (n : ℕ) → By labels (labelRules t s n) (labelAnswer t s n)
   unfolding labelAnswer labelOf textGood
-  label-by s n = go well (ltb n (t .annotations)) (absent at len) (stands s at len)
+  label-by s n = go well (ltb n (t .summary .annotations)) (absent place) (stands s place)
     where
-      at : ℕ
-      at = annotationAt notes n .label
-
-      len : ℕ
-      len = annotationAt notes n .labellen
+      place : Place
+      place = annotationAt (t .annotations) n .texts .label
 
       go : (w i a p : Bool) → By labels (rule 18 (not w || (i && not (a || p))) ∷ rule 19 (not i) ∷ [])
-          (cond w (cond i (cond a none (cond p (found (part s at len)) (notFound 18))) (notFound 19)) (notFound 18))
+          (cond w (cond i (cond a noLabel (cond p (labelFound (part s place)) (labelRefused 18))) (labelRefused 19)) (labelRefused 18))
       go false i a p = record { number = unfold lowest in refl; alone = λ _. refl }
       go true false a p = record { number = unfold lowest in refl; alone = λ _. refl }
       go true true true p = record { number = unfold lowest in refl; alone = λ h. absurd (h refl) }
       go true true false true = record { number = unfold lowest in refl; alone = λ h. absurd (h refl) }
       go true true false false = record { number = unfold lowest in refl; alone = λ _. refl }
 
-  label : (s : List ℕ) (n : ℕ) → RefusesBy (labelRules t caps notes s n) (labelling t caps notes s n)
+  label : (s : List ℕ) (n : ℕ) → RefusesBy (labelRules t s n) (labelling t s n)
   unfolding rising
-  label s n = refuses (labelling t caps notes s n) (labelRules t caps notes s n) (label-by s n) refl (λ _. refl)
+  label s n = refuses (labelling t s n) (labelRules t s n) (label-by s n) refl (λ _. refl)
 
-  label-place : (s : List ℕ) (n : ℕ) → RefusesBy (labelRules t caps notes s n) (labellingPlace t caps notes s n)
+  label-place : (s : List ℕ) (n : ℕ) → RefusesBy (labelRules t s n) (labellingPlace t s n)
   unfolding rising labelled
-  label-place s n = refuses (labellingPlace t caps notes s n) (labelRules t caps notes s n)
-      (record { number = label-by s n .number; alone = λ h. ap (λ (f : Found). placed f (annotationAt notes n .label)) (label-by s n .alone h) }) refl (λ _. refl)
+  label-place s n = refuses (labellingPlace t s n) (labelRules t s n)
+      (record { number = label-by s n .number; alone = λ h. ap (λ (f : Found). labelledAt f (annotationAt (t .annotations) n .texts .label)) (label-by s n .alone h) }) refl (λ _. refl)
 
   module _ (a b : ℕ) where
-    pieces : (m : List ℕ) → RefusesBy (piecesRules t caps notes a b m) (piecing t caps notes a b m)
+    pieces : (m : List ℕ) → RefusesBy (piecesRules t a b m) (piecing t a b m)
     unfolding piecesAnswer rising
-    pieces m = refuses (piecing t caps notes a b m) (piecesRules t caps notes a b m)
+    pieces m = refuses (piecing t a b m) (piecesRules t a b m)
         (stage counts (λ n. refl) well _ refl _ 18 _
-        (λ _. stage counts (λ n. refl) (inside t a b) _ refl _ 19 _
-        (λ _. stage counts (λ n. refl) (leb (pieceWidth * length (piecesIn t caps a b)) (length m)) _ refl _ 20 [] (λ _. accepted counts _ refl))))
+        (λ _. stage counts (λ n. refl) (inside (t .summary) a b) _ refl _ 19 _
+        (λ _. stage counts (λ n. refl) (leb (pieceWidth * length (piecesIn t a b)) (length m)) _ refl _ 20 [] (λ _. accepted counts _ refl))))
         refl (λ h. one-kept (kept _ _ _ h))
 
-    cut-zero : wellFormed t caps notes ≡ true → cutIn t caps notes a b .summary .refusal ≡ 0
+    cut-zero : wellFormed t ≡ true → cutIn t a b .summary .refusal ≡ 0
     unfolding cut cutSummary
-    cut-zero e = formed t caps notes e .nums .said
+    cut-zero e = formed (t .summary) (t .captures) (t .annotations) e .nums .said
 
-    cuts : (m k : List ℕ) → RefusesBy (cutRules t caps notes a b m k) (cutting t caps notes a b m k)
+    cuts : (m k : List ℕ) → RefusesBy (cutRules t a b m k) (cutting t a b m k)
     unfolding cutAnswer rising
     cuts m k =
-        let x = leb (captureWidth * length (cutIn t caps notes a b .captures)) (length m) in
-        let y = leb (annotationWidth * length (cutIn t caps notes a b .annotations)) (length k) in
-        refuses (cutting t caps notes a b m k) (cutRules t caps notes a b m k)
+        let x = leb (captureWidth * length (cutIn t a b .captures)) (length m) in
+        let y = leb (annotationWidth * length (cutIn t a b .annotations)) (length k) in
+        refuses (cutting t a b m k) (cutRules t a b m k)
         (stage summaries (λ n. refl) well _ refl _ 18 _
-        (λ e. stage summaries (λ n. refl) (inside t a b) _ refl _ 19 _ (λ _. stage summaries (λ n. refl) (x && y) _ (either x y) _ 20 [] (λ _. accepted summaries _ (cut-zero e)))))
+        (λ e. stage summaries (λ n. refl) (inside (t .summary) a b) _ refl _ 19 _ (λ _. stage summaries (λ n. refl) (x && y) _ (either x y) _ 20 [] (λ _. accepted summaries _ (cut-zero e)))))
         refl (λ h. both-kept (kept _ _ _ h) (kept _ _ _ h))
 
-    copy : (d m : List ℕ) → RefusesBy (copyRules t caps notes d a b m) (copying t caps notes d a b m)
+    copy : (d m : List ℕ) → RefusesBy (copyRules t d a b m) (copying t d a b m)
     unfolding copyAnswer rising
-    copy d m = refuses (copying t caps notes d a b m) (copyRules t caps notes d a b m)
-        (stage counts (λ n. refl) (well && eqb (length d) (t .size)) _ (either well _) _ 18 _
-        (λ _. stage counts (λ n. refl) (inside t a b) _ refl _ 19 _ (λ _. stage counts (λ n. refl) (leb (length (bytesIn t caps d a b)) (length m)) _ refl _ 20 [] (λ _. accepted counts _ refl))))
+    copy d m = refuses (copying t d a b m) (copyRules t d a b m)
+        (stage counts (λ n. refl) (well && eqb (length d) (t .summary .size)) _ (either well _) _ 18 _
+        (λ _. stage counts (λ n. refl) (inside (t .summary) a b) _ refl _ 19 _ (λ _. stage counts (λ n. refl) (leb (length (bytesIn t d a b)) (length m)) _ refl _ 20 [] (λ _. accepted counts _ refl))))
         refl (λ h. one-kept (kept _ _ _ h))
 
-  list : (s m : List ℕ) → RefusesBy (listingRules t caps notes s m) (listing t caps notes s m)
+  list : (s m : List ℕ) → RefusesBy (listingRules t s m) (listing t s m)
   unfolding listingAnswer rising
-  list s m = refuses (listing t caps notes s m) (listingRules t caps notes s m)
-      (stage listings (λ n. refl) (well && labelsOk s (annotationsOf t notes)) _ (either well _) _ 18 _
-      (λ _. stage listings (λ n. refl) (leb (length (listingOf t caps notes s)) (length m)) _ refl _ 20 [] (λ _. accepted listings _ refl)))
+  list s m = refuses (listing t s m) (listingRules t s m)
+      (stage counts (λ n. refl) (well && labelsOk s (annotationsOf t)) _ (either well _) _ 18 _
+      (λ _. stage counts (λ n. refl) (leb (length (listingOf t s)) (length m)) _ refl _ 20 [] (λ _. accepted counts _ refl)))
       refl (λ h. one-kept (kept _ _ _ h))
 
-  of-table : OfTable t caps notes
+  of-table : OfTable t
   of-table = record {
     locate = locate;
     label = label;

@@ -1,45 +1,46 @@
 -- Demand 2 holds of the reader's answers.
 use Prim.Native.Nat.{ℕ, zero, suc, _+_, _-_, _≤_, _<_}
 use mathlib.Core.Path.{_≡_, refl, sym, ap, subst, _∙_}
-use mathlib.Core.Bool.{Bool, true, false, cond, false≢true}
+use mathlib.Core.Bool.{Bool, true, false, false≢true}
 use mathlib.Core.List.{List, [], _∷_, _++_, append-nil}
 use mathlib.Core.Option.{Option, none, some}
 use native.Mathlib.Omega.{arith}
 use lib.ListN.{length, getD, take, drop, length-append, length-map, List·getD-map}
 use lib.Seq.{take-at}
-use lib.Dec.{ltb, eqb}
+use lib.Dec.{eqb}
 use borrow.Author.Tests.{ne-eqb, eqb-true, eqb-false}
 use Rattle.limits.specs.Limits.{nesting}
-use Rattle.grammar.specs.Grammar.{Text}
-use Rattle.grammar.specs.Reading.{isJson}
-use Rattle.grammar.specs.Stands.{Stands}
-use Rattle.grammar.proofs.Stands.{stands-tail, stands-left}
-use Rattle.grammar.proofs.Theorem.{json-is-grammar}
-use Rattle.decode.specs.Meaning.{Means}
-use Rattle.decode.proofs.TextUtf8.{text-utf8}
-use Rattle.fields.specs.declared.FieldType.the-variants as T
+use Rattle.json_grammar.specs.Grammar.{Text}
+use Rattle.json_grammar.specs.ByPlace.{isJson}
+use Rattle.json_grammar.specs.Stands.{Stands}
+use Rattle.json_grammar.proofs.Stands.{stands-tail, stands-left}
+use Rattle.json_grammar.proofs.Theorem.{json-is-grammar}
+use Rattle.json_strings.specs.Meaning.{Means}
+use Rattle.json_strings.proofs.TextUtf8.{text-utf8}
+use Rattle.sigmf_values.specs.declared.FieldType.the-variants as T
 use Rattle.refusals.specs.Refusals.{Rule, rule, lowest, ByRules}
 use Rattle.refusals.proofs.RuleLaws.{rising, Agree, over, step, lowest-by, skip, stop, never}
 use Rattle.table.specs.declared.Capture.{Capture}
 use Rattle.table.specs.declared.Annotation.{Annotation}
 use Rattle.table.specs.declared.Summary.{Summary}
+use Rattle.table.specs.Place.{nowhere}
 use Rattle.table.specs.Memory.{written}
-use Rattle.table.specs.Rows.{captureNumbers, annotationNumbers, captureAt, annotationAt, rowsFrom, rest, flat, capturesOf, annotationsOf}
-use Rattle.table.specs.Table.{refused}
-use Rattle.layout.specs.declared.CaptureEntry.{CaptureEntry}
-use Rattle.layout.specs.Layout.{Contents, endIndex, tooMany, summaryIn, capturesIn, annotationsIn, annotationRow}
-use Rattle.recording.specs.Reading as L
-use Rattle.recording.specs.Reading.{badLength, notJson, readRules, contents, judgement, readRefusal, readAnswer, capturesRead, annotationsRead}
-use Rattle.labels.specs.Text.{part}
-use Rattle.accepted.proofs.Accepted.{read-number, judged-number, summary-is, captures-are, annotations-are, captures-written, annotations-written}
-use Rattle.accepted.proofs.RowLaws.{rest-row, noEntry, noRow, rowWith, capture-row, annotation-row}
-use Rattle.derived.specs.Derived.{Node, Here, kind, top}
-use Rattle.derived.specs.Rules.{given, textIn, valueFrom, value, misshapen, captureIn, annotationIn, contentsIn, rulesBy, rulesOf, fileOf, contentsOf}
-use Rattle.derived.proofs.Shape.{Found}
-use Rattle.derived.proofs.FieldRules.{Typed}
-use Rattle.derived.proofs.Agrees.{badTypes, contents-same, read-with, passed-both}
-use Rattle.derived.proofs.Texts.{Quoted, quoted, text-quoted, number-bytes, label-at, rate-typed, rate-found}
-use Rattle.claims.specs.Demand2.{Numbered, allRules, LabelAt, no-label, label, RateAt, no-rate, rate, SummaryBy, capture, annotation, captureRow, RowsBy, ReadBy, Demand2}
+use Rattle.table.specs.Rows.{captureNumbers, annotationNumbers, captureAt, annotationAt, rowsFrom, rest, flat, captures, annotations}
+use Rattle.table.specs.Table.{noTable}
+use Rattle.reader_layout.specs.Layout.{Contents, endIndex, tooMany, summaryIn, capturesIn, annotationsIn}
+use Rattle.table.specs.Samples.{annotationRow}
+use Rattle.reader.specs.Reading as L
+use Rattle.reader.specs.Reading.{badLength, notJson, readRules, contents, judgedRecording, readRefusal, readAnswer, capturesRead, annotationsRead}
+use Rattle.listing_labels.specs.Text.{part}
+use Rattle.claims_accepted.proofs.Accepted.{read-number, judged-number, summary-is, captures-are, annotations-are, captures-written, annotations-written}
+use Rattle.claims_accepted.proofs.RowLaws.{rest-row, noRow, annotation-row}
+use Rattle.claims_derived.specs.Derived.{Node, Here, kind, top}
+use Rattle.claims_derived.specs.Rules.{given, textIn, value, misshapen, captureIn, annotationIn, numberPlace, textPlace, contentsIn, rulesBy, rulesOf, fileOf, contentsOf}
+use Rattle.claims_derived.proofs.Shape.{Found}
+use Rattle.claims_derived.proofs.FieldRules.{Typed}
+use Rattle.claims_derived.proofs.Agrees.{badTypes, contents-same, read-with, passed-both}
+use Rattle.claims_derived.proofs.Texts.{Quoted, quoted, text-quoted, number-bytes, label-at, rate-typed, rate-found}
+use Rattle.claims.specs.Demand2.{Numbered, allRules, LabelAt, no-label, label, RateAt, no-rate, rate, SummaryBy, annotation, captureRow, RowsBy, ReadBy, Demand2}
 
 no-text : (s : List ℕ) → isJson s ≡ false → Text nesting s → ⊥
 no-text s e t = false≢true (sym e ∙ json-is-grammar s .1 t)
@@ -52,11 +53,11 @@ module _ (s : List ℕ) (d : ℕ) (k : List Rule) (l : Text nesting s → List R
   n = lowest (readRules s d ++ k)
 
   long : badLength s d ≡ true → n ≡ 1
-  unfolding L.rulesOf
+  unfolding L.readRules
   long e = stop 1 (badLength s d) _ e
 
   lost : badLength s d ≡ false → isJson s ≡ false → n ≡ 2
-  unfolding L.rulesOf
+  unfolding L.readRules
   lost e f = skip 1 (badLength s d) _ e ∙ stop 2 (notJson s) _ (rw f)
 
   told : badLength s d ≡ false → (t : Text nesting s) → n ≡ lowest (rulesOf t d ++ l t)
@@ -109,24 +110,24 @@ module _ (s : List ℕ) (d : ℕ) (k : List Rule) (l : Text nesting s → List R
 -- ---- labels and the sample rate
 module _ {s : List ℕ} where
   body-is : (i : ℕ) (cs : List ℕ) → Stands s i (0x22 ∷ (cs ++ (0x22 ∷ []))) (i + length (0x22 ∷ (cs ++ (0x22 ∷ []))))
-      → part s (i + 1) (length (0x22 ∷ (cs ++ (0x22 ∷ []))) - 2) ≡ cs
+      → part s (record { at = i + 1; len = length (0x22 ∷ (cs ++ (0x22 ∷ []))) - 2 }) ≡ cs
   body-is i cs q =
       let o = stands-left s cs (0x22 ∷ []) (stands-tail s q) in
       let n : length cs ≡ length (0x22 ∷ (cs ++ (0x22 ∷ []))) - 2 = omega (arith, length-append cs (0x22 ∷ [])) in
       ap (take (length (0x22 ∷ (cs ++ (0x22 ∷ []))) - 2)) (o .rest) ∙ take-at cs (drop (i + 1 + length cs) s) _ n
 
-  label-of : (n : Node) → Here s n → Quoted (textIn (kind n)) (n .bytes) → LabelAt s (some n) (n .at + 1) (length (n .bytes) - 2)
+  label-of : (n : Node) → Here s n → Quoted (textIn (kind n)) (n .bytes) → LabelAt s (some n) (textPlace n)
   label-of n h q = go (n .bytes) refl h q where
-    go : (x : List ℕ) → n .bytes ≡ x → Stands s (n .at) x (n .at + length x) → Quoted (textIn (kind n)) x → LabelAt s (some n) (n .at + 1) (length (n .bytes) - 2)
+    go : (x : List ℕ) → n .bytes ≡ x → Stands s (n .at) x (n .at + length x) → Quoted (textIn (kind n)) x → LabelAt s (some n) (textPlace n)
     go x e p (quoted {cs} m) =
-        let c : part s (n .at + 1) (length (n .bytes) - 2) ≡ cs = ap (λ (y : List ℕ). part s (n .at + 1) (length y - 2)) e ∙ body-is (n .at) cs p in
-        label h (e ∙ ap (λ (y : List ℕ). 0x22 ∷ (y ++ (0x22 ∷ []))) (sym c)) (subst (λ (y : List ℕ). Means y (textIn (kind n))) (sym c) m)
+        let c : part s (textPlace n) ≡ cs = ap (λ (y : List ℕ). part s (record { at = n .at + 1; len = length y - 2 })) e ∙ body-is (n .at) cs p in
+        label h refl (e ∙ ap (λ (y : List ℕ). 0x22 ∷ (y ++ (0x22 ∷ []))) (sym c)) (subst (λ (y : List ℕ). Means y (textIn (kind n))) (sym c) m)
 
-  label-is : (v : Option Node) → Found s v → Typed T.Text v → LabelAt s v (given 0 (λ n. n .at + 1) v) (given 0 (λ n. length (n .bytes) - 2) v)
+  label-is : (v : Option Node) → Found s v → Typed T.Text v → LabelAt s v (given nowhere textPlace v)
   label-is none h e = no-label
   label-is (some n) h e = label-of n h (text-quoted n e)
 
-  rate-is : (v : Option Node) → Found s v → Typed T.Double v → RateAt s v (given 0 (λ n. n .at) v) (given 0 (λ n. length (n .bytes)) v)
+  rate-is : (v : Option Node) → Found s v → Typed T.Double v → RateAt s v (given nowhere numberPlace v)
   rate-is none h e = no-rate
   rate-is (some n) h e = rate h (number-bytes n e)
 
@@ -144,18 +145,11 @@ module _ {s : List ℕ} (t : Text nesting s) (d : ℕ) (h : misshapen (top t) �
         numbers = f;
         captureCount = ap (λ (x : Summary). x .captures) f ∙ length-map (fileOf t .captures) captureIn;
         annotationCount = ap (λ (x : Summary). x .annotations) f ∙ length-map (fileOf t .annotations) annotationIn;
-        rate = subst (λ (x : Summary). RateAt s v (x .rate) (x .ratelen)) (sym f) (rate-is v (rate-found t h ok) (rate-typed t h ok));
+        rate = subst (λ (x : Summary). RateAt s v (x .rate)) (sym f) (rate-is v (rate-found t h ok) (rate-typed t h ok));
       }
 
-  said : (i : ℕ) → getD (contentsOf t .captures) i noEntry ≡ captureIn (capture t i)
-  unfolding contentsIn valueFrom
-  said i = List·getD-map captureIn (fileOf t .captures) i []
-
-  row-by : (i : ℕ) → i < length (fileOf t .captures) → getD (capturesIn (contents s) d) i noRow ≡ captureRow t d i
-  unfolding contentsIn
-  row-by i g =
-      ap (λ (c : Contents). getD (capturesIn c d) i noRow) same ∙ capture-row (contentsOf t) d i (omega (arith, g, length-map (fileOf t .captures) captureIn))
-      ∙ rw (said i, said (suc i), length-map (fileOf t .captures) captureIn)
+  row-by : (i : ℕ) → getD (capturesIn (contents s) d) i noRow ≡ captureRow t d i
+  row-by i = ap (λ (c : Contents). getD (capturesIn c d) i noRow) same
 
   note-by : (i : ℕ) → getD (annotationsIn (contents s) d) i (annotationRow (endIndex (contents s) d) (annotationIn []))
       ≡ annotationRow (endIndex (contentsOf t) d) (annotationIn (annotation t i))
@@ -192,42 +186,42 @@ module _ (s : List ℕ) (d : ℕ) (caps notes : List ℕ) where
         rest-row (annotationAt (annotationsRead s d caps notes)) w _ i g ∙ ap (λ (rs : List Annotation). getD rs i w) (annotations-are s d caps notes z)
         ∙ note-by t d (both .0) (both .1) i
 
-    label-read : (i : ℕ) → LabelAt s (value "core:label" (annotation t i)) (annotationIn (annotation t i) .label) (annotationIn (annotation t i) .labellen)
+    label-read : (i : ℕ) → LabelAt s (value "core:label" (annotation t i)) (annotationIn (annotation t i) .texts .label)
     label-read i = let p = label-at t (both .0) (both .1) i in label-is (value "core:label" (annotation t i)) (p .0) (p .1)
 
     rows-read : RowsBy t d (readAnswer s d caps notes) caps notes (capturesRead s d caps notes) (annotationsRead s d caps notes)
     rows-read = record {
       captureRows = λ i g. rest-row (captureAt (capturesRead s d caps notes)) noRow (readAnswer s d caps notes .captures) i (omega (arith, g)) ∙ ap (λ (rs : List Capture). getD rs i noRow) (captures-are s d caps notes z)
-          ∙ row-by t d (both .0) (both .1) i (omega (arith, g, summary-read .captureCount));
+          ∙ row-by t d (both .0) (both .1) i;
       annotationRows = note-read;
-      labels = λ i g. subst (λ (r : Annotation). LabelAt s (value "core:label" (annotation t i)) (r .label) (r .labellen)) (sym (note-read i g)) (label-read i);
+      labels = λ i g. subst (λ (r : Annotation). LabelAt s (value "core:label" (annotation t i)) (r .texts .label)) (sym (note-read i g)) (label-read i);
       captureMemory = captures-written s d caps notes z;
       annotationMemory = annotations-written s d caps notes z;
     }
 
 module _ (s : List ℕ) (d : ℕ) where
-  judged-is : judgement s d .refusal ≡ lowest (readRules s d ++ [])
+  judged-is : judgedRecording s d .refusal ≡ lowest (readRules s d ++ [])
   judged-is = judged-number s d ∙ ap lowest (sym (append-nil (readRules s d)))
 
   rising-judged : (t : Text nesting s) → rising 2 (rulesOf t d ++ []) ≡ true
   unfolding rulesBy rising
   rising-judged t = refl
 
-  judged-by : Numbered s d (judgement s d .refusal) (λ t. rulesOf t d)
+  judged-by : Numbered s d (judgedRecording s d .refusal) (λ t. rulesOf t d)
   unfolding rulesBy
   judged-by = rw judged-is (numbered s d [] (λ t. []) (λ t h ok. over) rising-judged)
 
-  judged-summary : judgement s d .refusal ≡ 0 → (t : Text nesting s) → SummaryBy t d (judgement s d)
+  judged-summary : judgedRecording s d .refusal ≡ 0 → (t : Text nesting s) → SummaryBy t d (judgedRecording s d)
   judged-summary z t =
       let p = accepted-both s d [] (λ t. []) (λ t h ok. over) rising-judged (sym judged-is ∙ z) t in
-      summary-by t d (p .0) (p .1) (judgement s d) (unfold judgement in rw (sym (judged-number s d) ∙ z))
+      summary-by t d (p .0) (p .1) (judgedRecording s d) (unfold judgedRecording in rw (sym (judged-number s d) ∙ z))
 
 -- ---- the reader's answer
 module _ (s : List ℕ) (d : ℕ) (caps notes : List ℕ) where
   not-zero : (readAnswer s d caps notes .refusal ≡ 0 → ⊥) → eqb (readRefusal s d caps notes) 0 ≡ false
   not-zero h = ne-eqb (readRefusal s d caps notes) 0 (λ z. h (read-number s d caps notes ∙ z))
 
-  read-alone : (readAnswer s d caps notes .refusal ≡ 0 → ⊥) → readAnswer s d caps notes ≡ refused (readAnswer s d caps notes .refusal)
+  read-alone : (readAnswer s d caps notes .refusal ≡ 0 → ⊥) → readAnswer s d caps notes ≡ noTable (readAnswer s d caps notes .refusal)
   unfolding readAnswer
   read-alone h = rw (not-zero h)
 
@@ -290,7 +284,7 @@ module _ (s : List ℕ) (d : ℕ) (caps notes : List ℕ) (r u : Summary) (m k w
         p .rows z t .captureMemory
         ∙ ap (λ (l : List Capture). written (flat captureNumbers l) caps)
         (all-same (captureAt m) (captureAt w) (r .captures) (λ i l. p .rows z t .captureRows i (omega (arith, l)) ∙ sym (q .rows y t .captureRows i (omega (arith, l, ap (λ (v : Summary). v .captures) accepted-once))))
-        ∙ ap (λ (v : Summary). capturesOf v w) accepted-once)
+        ∙ ap (λ (v : Summary). captures w (v .captures)) accepted-once)
         ∙ sym (q .rows y t .captureMemory)
 
     annotations-once : k ≡ x
@@ -298,7 +292,7 @@ module _ (s : List ℕ) (d : ℕ) (caps notes : List ℕ) (r u : Summary) (m k w
         p .rows z t .annotationMemory
         ∙ ap (λ (l : List Annotation). written (flat annotationNumbers l) notes)
         (all-same (annotationAt k) (annotationAt x) (r .annotations) (λ i l. p .rows z t .annotationRows i (omega (arith, l)) ∙ sym (q .rows y t .annotationRows i (omega (arith, l, ap (λ (v : Summary). v .annotations) accepted-once))))
-        ∙ ap (λ (v : Summary). annotationsOf v x) accepted-once)
+        ∙ ap (λ (v : Summary). annotations x (v .annotations)) accepted-once)
         ∙ sym (q .rows y t .annotationMemory)
 
   once : (r ≡ u) × (m ≡ w) × (k ≡ x)
@@ -309,7 +303,7 @@ module _ (s : List ℕ) (d : ℕ) (caps notes : List ℕ) (r u : Summary) (m k w
         let f = eqb-false (r .refusal) 0 e in
         let g = p .keeps f in
         let h = q .keeps (λ z. f (once-number ∙ z)) in
-        (p .alone f ∙ ap refused once-number ∙ sym (q .alone (λ z. f (once-number ∙ z))), g .0 ∙ sym (h .0), g .1 ∙ sym (h .1))
+        (p .alone f ∙ ap noTable once-number ∙ sym (q .alone (λ z. f (once-number ∙ z))), g .0 ∙ sym (h .0), g .1 ∙ sym (h .1))
 
 -- demand 2
 pub demand-2 : (s : List ℕ) (d : ℕ) (caps notes : List ℕ) → Demand2 s d caps notes

@@ -2,6 +2,5 @@ pub mod Computing
 pub mod Demand1
 pub mod Demand2
 pub mod Demand3
-pub mod StepExamples
 pub mod Marked
 pub mod Listed

@@ -11,33 +11,36 @@ use lib.Seq.{take-at}
 use lib.Dec.{eqb, leb}
 use borrow.Author.Tests.{le-leb, eq-eqb, ne-eqb}
 use Rattle.limits.specs.Limits.{nesting}
-use Rattle.tokens.specs.Text.{byte}
-use Rattle.grammar.specs.Grammar.{Between, Multibyte, row2, row3, row4, row5, row6, row7, row8, row9, Text}
-use Rattle.grammar.specs.Stands.{Stands}
-use Rattle.grammar.proofs.Stands.{stands-head, stands-inside, stands-tail, stands-right}
-use Rattle.decode.specs.Decode.{decodedFrom, isBody}
-use Rattle.decode.specs.Meaning.{Means}
-use Rattle.decode.specs.Utf8.{Utf8, no-text, text, single, several}
-use Rattle.decode.proofs.Theorem.{body-is-characters, means-decoded, means-characters}
+use Rattle.json_blocks.specs.TextBytes.{byte}
+use Rattle.json_grammar.specs.Grammar.{Between, Multibyte, row2, row3, row4, row5, row6, row7, row8, row9, Text}
+use Rattle.json_grammar.specs.Stands.{Stands}
+use Rattle.json_grammar.proofs.Stands.{stands-head, stands-inside, stands-tail, stands-right}
+use Rattle.json_strings.specs.Decode.{decodedFrom, isBody}
+use Rattle.json_strings.specs.Meaning.{Means}
+use Rattle.json_strings.specs.Utf8.{Utf8, no-text, text, single, several}
+use Rattle.json_strings.proofs.Theorem.{body-is-characters, means-decoded, means-characters}
+use Rattle.table.specs.declared.Place.{Place}
 use Rattle.table.specs.declared.Summary.{Summary}
 use Rattle.table.specs.Memory.{written}
 use Rattle.table.specs.Table.{wellFormed}
-use Rattle.table.specs.Rows.{annotationAt, rowsFrom, flat, capturesOf, annotationsOf}
-use Rattle.recording.specs.Reading.{readAnswer, capturesRead, annotationsRead}
-use Rattle.labels.specs.Text.{absent, part, stands, textGood}
-use Rattle.labels.specs.Label.{labelOk, labelsOk}
+use Rattle.table.specs.Rows.{annotationAt, rowsFrom, flat, captures, annotations, table}
+use Rattle.reader.specs.Reading.{readAnswer, capturesRead, annotationsRead}
+use Rattle.table.specs.Place.{absent}
+use Rattle.listing_labels.specs.Text.{part, stands, textGood}
+use Rattle.listing_labels.specs.Label.{labelOk, labelsOk}
 use Rattle.listing.specs.Lines.{recordingLine, captureLine, annotationLine}
-use Rattle.listing.specs.declared.Listed.{Listed}
-use Rattle.listing.specs.Listing.{listed, listingOf, listingAnswer, listingMemory}
-use Rattle.lines.specs.Split.{splitLines}
-use Rattle.lines.specs.Recover.{labelIn, labelText}
-use Rattle.lines.proofs.Theorem.{one-line-each, captures-count, label-recovered}
-use Rattle.accepted.proofs.Tests.{and-true}
-use Rattle.accepted.proofs.ValueLaws.{Each}
-use Rattle.accepted.proofs.ValueLaws as E
-use Rattle.accepted.proofs.Accepted.{accepted-formed}
-use Rattle.derived.specs.Derived.{Node}
-use Rattle.derived.specs.Rules.{value}
+use Rattle.table.specs.declared.Wrote.{Wrote}
+use Rattle.table.specs.Wrote.{wrote}
+use Rattle.listing.specs.Listing.{listingOf, listingAnswer, listingMemory}
+use Rattle.listing_lines.specs.Split.{splitLines}
+use Rattle.listing_lines.specs.Recover.{labelIn, labelText}
+use Rattle.listing_lines.proofs.Theorem.{one-line-each, captures-count, label-recovered}
+use Rattle.claims_accepted.proofs.Tests.{and-true}
+use Rattle.claims_accepted.proofs.ValueLaws.{Each}
+use Rattle.claims_accepted.proofs.ValueLaws as E
+use Rattle.claims_accepted.proofs.Accepted.{accepted-formed}
+use Rattle.claims_derived.specs.Derived.{Node}
+use Rattle.claims_derived.specs.Rules.{value}
 use Rattle.claims.specs.Demand2.{LabelAt, annotation}
 use Rattle.claims.specs.Demand2 as A
 use Rattle.claims.specs.Listed.{LabelBack, no-label, label, allLines, joined, ListedRead}
@@ -72,29 +75,30 @@ byte-low (b ∷ s) (E.next h r) zero = h
 byte-low (b ∷ s) (E.next h r) (suc i) = byte-low s r i
 
 -- ---- one label
-text-good : (s : List ℕ) (at len : ℕ) → 1 ≤ at → byte s (at - 1) ≡ 0x22 → byte s (at + len) ≡ 0x22 → isBody (part s at len) ≡ true → textGood s at len ≡ true
+text-good : (s : List ℕ) (p : Place) → 1 ≤ p .at → byte s (p .at - 1) ≡ 0x22 → byte s (p .at + p .len) ≡ 0x22 → isBody (part s p) ≡ true → textGood s p ≡ true
 unfolding textGood stands absent
-text-good s at len h a b c = rw (ne-eqb at 0 (λ z. omega arith), le-leb 1 at h, eq-eqb (byte s (at - 1)) 0x22 a, eq-eqb (byte s (at + len)) 0x22 b, c)
+text-good s p h a b c = rw (ne-eqb (p .at) 0 (λ z. omega arith), le-leb 1 (p .at) h, eq-eqb (byte s (p .at - 1)) 0x22 a, eq-eqb (byte s (p .at + p .len)) 0x22 b, c)
 
 module _ (s : List ℕ) where
-  quoted-good : (i l j : ℕ) (t : List ℕ) → Stands s i (0x22 ∷ (part s (i + 1) l ++ (0x22 ∷ []))) j → Means (part s (i + 1) l) t → textGood s (i + 1) l ≡ true
-  quoted-good i l j t q m =
-      let p = part s (i + 1) l in
-      let r = stands-right s p (0x22 ∷ []) (stands-tail s q) in
-      let n : length p ≡ l = omega (arith, length-take l (drop (i + 1) s), length-drop (i + 1) s, stands-inside s r) in
-      let z : i + 1 - 1 ≡ i = omega arith in
-      text-good s (i + 1) l (omega arith) (ap (byte s) z ∙ stands-head s q) (ap (λ (k : ℕ). byte s (i + 1 + k)) (sym n) ∙ stands-head s r) (body-is-characters p .1 (means-characters m))
+  quoted-good : (i : ℕ) (p : Place) (j : ℕ) (t : List ℕ) → p .at ≡ i + 1 → Stands s i (0x22 ∷ (part s p ++ (0x22 ∷ []))) j → Means (part s p) t → textGood s p ≡ true
+  quoted-good i p j t a q m =
+      let x = part s p in
+      let r = stands-right s x (0x22 ∷ []) (stands-tail s q) in
+      let n : length x ≡ p .len = omega (arith, a, length-take (p .len) (drop (p .at) s), length-drop (p .at) s, stands-inside s r) in
+      let z : p .at - 1 ≡ i = omega (arith, a) in
+      let y : p .at + p .len ≡ i + 1 + length x = omega (arith, a, n) in
+      text-good s p (omega (arith, a)) (ap (byte s) z ∙ stands-head s q) (ap (byte s) y ∙ stands-head s r) (body-is-characters x .1 (means-characters m))
 
-  label-good : {v : Option Node} {at len : ℕ} → LabelAt s v at len → textGood s at len ≡ true
+  label-good : {v : Option Node} {p : Place} → LabelAt s v p → textGood s p ≡ true
   unfolding textGood absent
   label-good A.no-label = refl
-  label-good (A.label {n} {l} h e m) =
-      quoted-good (n .at) l _ _ (subst (λ (x : List ℕ). Stands s (n .at) x (n .at + length (n .bytes))) e h) m
+  label-good (A.label {n} {p} h a e m) =
+      quoted-good (n .at) p _ _ a (subst (λ (x : List ℕ). Stands s (n .at) x (n .at + length (n .bytes))) e h) m
 
-  label-back : {v : Option Node} {at len : ℕ} → LabelAt s v at len → LabelBack v (cond (absent at len) none (some (decodedFrom (part s at len) 0)))
+  label-back : {v : Option Node} {p : Place} → LabelAt s v p → LabelBack v (cond (absent p) none (some (decodedFrom (part s p) 0)))
   unfolding absent
   label-back A.no-label = no-label
-  label-back (A.label {n} {l} h e m) = rw (ne-eqb (n .at + 1) 0 (λ z. omega arith), means-decoded m) (label e m)
+  label-back (A.label {n} {p} h a e m) = rw (ne-eqb (p .at) 0 (λ z. omega (arith, a)), means-decoded m) (label e m)
 
   -- all of them
   rows-good : (notes : List ℕ) (n i : ℕ) → ((k : ℕ) → k < n → labelOk s (annotationAt notes (i + k)) ≡ true) → labelsOk s (rowsFrom (annotationAt notes) n i) ≡ true
@@ -134,44 +138,44 @@ rows-at f at z (suc n) i zero h = ap (λ (j : ℕ). f (at j)) (omega arith)
 rows-at f at z (suc n) i (suc k) h = rows-at f at z n (suc i) k (omega arith) ∙ ap (λ (j : ℕ). f (at j)) (omega arith)
 
 module _ (t : Summary) (caps notes s : List ℕ) where
-  joined-is : joined t caps notes s ≡ listingOf t caps notes s
+  joined-is : joined (table t caps notes) s ≡ listingOf (table t caps notes) s
   unfolding listingOf flat
   joined-is =
-      flat-join (recordingLine t ∷ map captureLine (capturesOf t caps)) (map (annotationLine s) (annotationsOf t notes))
-      ∙ rw (flat-map captureLine (capturesOf t caps), flat-map (annotationLine s) (annotationsOf t notes))
+      flat-join (recordingLine t ∷ map captureLine (captures caps (t .captures))) (map (annotationLine s) (annotations notes (t .annotations)))
+      ∙ rw (flat-map captureLine (captures caps (t .captures)), flat-map (annotationLine s) (annotations notes (t .annotations)))
 
-  joined-lines : splitLines (joined t caps notes s) ≡ allLines t caps notes s
+  joined-lines : splitLines (joined (table t caps notes) s) ≡ allLines (table t caps notes) s
   joined-lines = ap splitLines joined-is ∙ one-line-each t caps notes s
 
   -- the line of annotation k
-  line-at : (k : ℕ) → k < t .annotations → getD (allLines t caps notes s) (1 + t .captures + k) [] ≡ annotationLine s (annotationAt notes k)
+  line-at : (k : ℕ) → k < t .annotations → getD (allLines (table t caps notes) s) (1 + t .captures + k) [] ≡ annotationLine s (annotationAt notes k)
   line-at k h =
-      let a = recordingLine t ∷ map captureLine (capturesOf t caps) in
-      past a (map (annotationLine s) (annotationsOf t notes)) [] (1 + t .captures) k (captures-count t caps notes s) ∙ rows-at (annotationLine s) (annotationAt notes) [] (t .annotations - 0) 0 k (omega (arith, h)) ∙ ap (λ (j : ℕ). annotationLine s (annotationAt notes j)) (omega arith)
+      let a = recordingLine t ∷ map captureLine (captures caps (t .captures)) in
+      past a (map (annotationLine s) (annotations notes (t .annotations))) [] (1 + t .captures) k (captures-count t caps notes s) ∙ rows-at (annotationLine s) (annotationAt notes) [] (t .annotations - 0) 0 k (omega (arith, h)) ∙ ap (λ (j : ℕ). annotationLine s (annotationAt notes j)) (omega arith)
 
   -- a listing that is refused for lack of room alone
-  module _ (m : List ℕ) (w : wellFormed t caps notes ≡ true) (l : labelsOk s (annotationsOf t notes) ≡ true) where
-    answer-is : listingAnswer t caps notes s (length m) ≡ cond (leb (length (joined t caps notes s)) (length m)) (listed 0 (length (joined t caps notes s))) (listed 20 0)
+  module _ (m : List ℕ) (w : wellFormed (table t caps notes) ≡ true) (l : labelsOk s (annotations notes (t .annotations)) ≡ true) where
+    answer-is : listingAnswer (table t caps notes) s (length m) ≡ cond (leb (length (joined (table t caps notes) s)) (length m)) (wrote 0 (length (joined (table t caps notes) s))) (wrote 20 0)
     unfolding listingAnswer
     answer-is = rw (w, l, joined-is)
 
-    output-is : listingMemory t caps notes s m ≡ cond (leb (length (joined t caps notes s)) (length m)) (written (joined t caps notes s) m) m
-    output-is = rw (answer-is, joined-is) (go (leb (length (listingOf t caps notes s)) (length m)))
+    output-is : listingMemory (table t caps notes) s m ≡ cond (leb (length (joined (table t caps notes) s)) (length m)) (written (joined (table t caps notes) s) m) m
+    output-is = rw (answer-is, joined-is) (go (leb (length (listingOf (table t caps notes) s)) (length m)))
       where
-        go : (b : Bool) → cond (eqb (cond b (listed 0 (length (listingOf t caps notes s))) (listed 20 0) .refusal) 0) (written (listingOf t caps notes s) m) m
-            ≡ cond b (written (listingOf t caps notes s) m) m
+        go : (b : Bool) → cond (eqb (cond b (wrote 0 (length (listingOf (table t caps notes) s))) (wrote 20 0) .refusal) 0) (written (listingOf (table t caps notes) s) m) m
+            ≡ cond b (written (listingOf (table t caps notes) s) m) m
         go true = refl
         go false = refl
 
-    lines-are : listingAnswer t caps notes s (length m) .refusal ≡ 0
-        → splitLines (take (listingAnswer t caps notes s (length m) .bytes) (listingMemory t caps notes s m)) ≡ allLines t caps notes s
+    lines-are : listingAnswer (table t caps notes) s (length m) .refusal ≡ 0
+        → splitLines (take (listingAnswer (table t caps notes) s (length m) .count) (listingMemory (table t caps notes) s m)) ≡ allLines (table t caps notes) s
     lines-are e =
-        let b = leb (length (joined t caps notes s)) (length m) in
-        (λ i. splitLines (take (answer-is i .bytes) (output-is i))) ∙ go b (ap (λ (r : Listed). r .refusal) (sym answer-is) ∙ e)
+        let b = leb (length (joined (table t caps notes) s)) (length m) in
+        (λ i. splitLines (take (answer-is i .count) (output-is i))) ∙ go b (ap (λ (r : Wrote). r .refusal) (sym answer-is) ∙ e)
       where
-        go : (b : Bool) → cond b (listed 0 (length (joined t caps notes s))) (listed 20 0) .refusal ≡ 0
-            → splitLines (take (cond b (listed 0 (length (joined t caps notes s))) (listed 20 0) .bytes) (cond b (written (joined t caps notes s) m) m)) ≡ allLines t caps notes s
-        go true f = ap splitLines (take-at (joined t caps notes s) (drop (length (joined t caps notes s)) m) _ refl) ∙ joined-lines
+        go : (b : Bool) → cond b (wrote 0 (length (joined (table t caps notes) s))) (wrote 20 0) .refusal ≡ 0
+            → splitLines (take (cond b (wrote 0 (length (joined (table t caps notes) s))) (wrote 20 0) .count) (cond b (written (joined (table t caps notes) s) m) m)) ≡ allLines (table t caps notes) s
+        go true f = ap splitLines (take-at (joined (table t caps notes) s) (drop (length (joined (table t caps notes) s)) m) _ refl) ∙ joined-lines
         go false f = absurd (omega (arith, f))
 
 -- ---- of an accepted recording
@@ -185,13 +189,13 @@ module _ (s : List ℕ) (d : ℕ) (caps notes : List ℕ) (z : readAnswer s d ca
   abbrev N : List ℕ
   N = annotationsRead s d caps notes
 
-  label-at : (u : Text nesting s) (k : ℕ) → k < T .annotations → LabelAt s (value "core:label" (annotation u k)) (annotationAt N k .label) (annotationAt N k .labellen)
+  label-at : (u : Text nesting s) (k : ℕ) → k < T .annotations → LabelAt s (value "core:label" (annotation u k)) (annotationAt N k .texts .label)
   label-at u k h = demand-2 s d caps notes .read .rows z u .labels k h
 
   derived : Text nesting s
   derived = demand-2 s d caps notes .read .number .text (λ e. omega (arith, z, e)) (λ e. omega (arith, z, e))
 
-  labels-stand : labelsOk s (annotationsOf T N) ≡ true
+  labels-stand : labelsOk s (annotations N (T .annotations)) ≡ true
   labels-stand =
       rows-good s N (T .annotations - 0) 0
       (λ k h. subst (λ (j : ℕ). labelOk s (annotationAt N j) ≡ true) (sum k) (label-good s (label-at derived k (omega (arith, h)))))

@@ -2,68 +2,59 @@
 use Prim.Native.Nat.{ℕ}
 use mathlib.Core.Path.{_≡_, refl, ap, _∙_}
 use mathlib.Core.Bool.{Bool, true, false, cond, _||_}
-use mathlib.Core.List.{List, [], _∷_}
+use mathlib.Core.List.{List, [], _∷_, _++_}
 use lib.ListN.{length}
 use lib.Dec.{eqb, ltb}
 use borrow.Author.Tests.{eq-eqb}
 use Rattle.limits.specs.Limits.{metadata, dataset, nesting}
-use Rattle.tokens.specs.Group.{afterItem, colonAt, nameAt}
-use Rattle.tokens.specs.Number.{digitsAt, integerAt, fractionAt, exponentAt, skipMinus, numberAt}
-use Rattle.tokens.specs.Run.{runTurns, run}
-use Rattle.tokens.specs.String.{shortEscape, escapeAt, characterAt, stringTurn, stringAt}
-use Rattle.tokens.specs.Text.{within, blank, skipTurn, skipWhile, byteWithin}
-use Rattle.tokens.specs.Lists.{all, any, numberFrom}
-use Rattle.grammar.specs.Reading.{itemTurn, itemsAt, groupAt, memberAt, anyValueAt, valueAt, isJson}
-use Rattle.grammar.specs.Skip.{skipStringTurn, skipString, scalar}
-use Rattle.decode.specs.Decode.{unitAt, utf8, decodedUnits, decodedFrom}
-use Rattle.decode.specs.Same.{same}
-use Rattle.members.specs.Gather.{gatherSteps, gather}
-use Rattle.members.specs.Members.{nextItem}
-use Rattle.json.specs.Names.{has, repeated, badNames}
-use Rattle.datatypes.specs.Datatypes.{twelve, datatypes, listed, rowOf, widthOf}
-use Rattle.texts.specs.Form.{nameByte, spaceByte, space, rest, formOk, formOf, pastSpace}
-use Rattle.texts.specs.Lookup.{place}
-use Rattle.fields.specs.Names.{globals, captures, annotations, coreAt, typeAt}
-use Rattle.fields.specs.Values.{digitsFrom, uintOf, hasType}
+use Rattle.json_blocks.specs.Group.{afterItem, colonAt}
+use Rattle.json_tokens.specs.MemberName.{nameAt}
+use Rattle.json_tokens.specs.Number.{digitsAt, integerAt, fractionAt, exponentAt, skipMinus, numberAt}
+use Rattle.json_blocks.specs.Turns.{runTurns, runText}
+use Rattle.json_characters.specs.String.{shortEscape, escapeAt, characterAt, stringTurn, stringAt}
+use Rattle.json_blocks.specs.TextBytes.{within, blank, skipTurn, skipWhile, byteWithin}
+use Rattle.json_blocks.specs.Lists.{all, any, numberFrom}
+use Rattle.json_grammar.specs.ByPlace.{itemTurn, itemsAt, groupAt, memberAt, anyValueAt, valueAt, isJson}
+use Rattle.json_grammar.specs.Skip.{skipStringTurn, skipString, tokenByte}
+use Rattle.json_strings.specs.Decode.{unitAt, decodedUnits, decodedFrom}
+use Rattle.json_strings.specs.Utf8.{utf8}
+use Rattle.json_names.specs.Same.{same}
+use Rattle.json_walk.specs.Gather.{gatherSteps, gather}
+use Rattle.json_walk.specs.Members.{nextItem}
+use Rattle.json_judge.specs.MemberNames.{hasName, repeated, badNames}
+use Rattle.sigmf_datatypes.specs.Datatypes.{twelve, datatypes, isListed, datatypeOf, widthOf}
+use Rattle.sigmf_texts.specs.Form.{nameByte, namespaceByte, namespaceOf, afterColon, formOk, formOf}
+use Rattle.sigmf_texts.specs.FormCode.{pastSpace}
+use Rattle.sigmf_texts.specs.Lookup.{indexIn}
+use Rattle.sigmf_names.specs.Names.{globalFields, captureFields, annotationFields, coreAt, typeAt}
+use Rattle.sigmf_values.specs.Values.{isUint, uintOf, hasType}
 use Rattle.refusals.specs.Refusals.{Rule, rule, lowest}
+use Rattle.refusals.proofs.RuleLaws.{rising, skip, lowest-then}
 use Rattle.table.specs.declared.Summary.{Summary}
 use Rattle.table.specs.Memory.{written, row}
-use Rattle.table.specs.Rows.{captureNumbers, annotationNumbers, captureAt, annotationAt, rowsFrom, flat}
-use Rattle.table.specs.Table.{refused, nextStart, captureOk, capturesOk, textOk, textsOk, annotationOk, annotationsOk, formatOk, countsOk, sizesOk, rowsOk, wellFormed}
-use Rattle.table.specs.Samples.{headerSum, headersTo, place as placeTable}
-use Rattle.cutting.specs.Cut.{kept, cutSummary, cut, cutAnswer}
-use Rattle.cutting.specs.Pieces.{put, runs, inside, piecesAnswer}
-use Rattle.layout.specs.Layout.{Contents, summaryOr, capturesIn, annotationsIn, headers, samplesIn, ascendingFrom, unordered, notWhole, allEntries, allNotes, outside, nextStart as nextStartLayout, captureRows, summaryIn, tooMany}
-use Rattle.layout.proofs.JudgeLaws.{numbered, lowest-then}
-use Rattle.layout.specs.declared.Count.the-variants as C
-use Rattle.objects.specs.Fields.{missing, valueFrom, misnamed, missingFrom, mistyped}
-use Rattle.objects.specs.Capture.{badDatetime}
-use Rattle.objects.specs.Global.{otherVersion, otherDatatype, badChannels, badExtension, needsExtension, noDataset}
-use Rattle.recording.specs.File.{File, topAt, namedFrom, allObjects, fileOf, contentsOf}
-use Rattle.recording.specs.Reading.{notJson, badMembers, inFile, contents, badLength, misshapen, rulesOf, readRefusal, readAnswer, capturesRead, annotationsRead}
-use Rattle.claims.specs.Marked.{metadataWith, withCount, nested, capturesLent, annotationsLent, answer, captureRows as rowsOfCaptures, annotationRows, piecesLent, summaryNumbers, reads, gives, pieces, cuts, ofRecording, marked, allHold}
+use Rattle.table.specs.Rows.{captureNumbers, annotationNumbers, captureAt, annotationAt, rowsFrom, flat, Table, table}
+use Rattle.table.specs.Place.{endsWithin}
+use Rattle.table.specs.Table.{allLike, capturesObey, annotationsObey, allTexts, noTable, textsOk, formatOk, countsOk, sizesOk, rowsOk, wellFormed}
+use Rattle.table.specs.Samples.{headerSum, headersTo, place as placeTable, nextStart, captureRows, ascendingFrom, allEntries, allNotes}
+use Rattle.table_cuts.specs.Cut.{kept, cutSummary, cut, cutAnswer}
+use Rattle.table_pieces.specs.Pieces.{put, runs, inside, piecesAnswer}
+use Rattle.reader_layout.specs.Layout.{Contents, sampleRules, summaryOr, capturesIn, annotationsIn, samplesIn, unordered, notWhole, indexOutside, summaryIn, tooMany}
+use Rattle.table.specs.declared.Count.the-variants as C
+use Rattle.sigmf_objects.specs.Fields.{lastWhere, misnamed, missingFrom, mistyped}
+use Rattle.sigmf_objects.specs.Capture.{badDatetime}
+use Rattle.sigmf_objects.specs.Global.{otherVersion, otherDatatype, badChannels, badExtension, needsExtension, noDataset}
+use Rattle.reader.specs.File.{File, topAt, allObjects, fileOf, contentsOf}
+use Rattle.reader.specs.Reading.{notJson, badMembers, contents, badLength, misshapen, objectRules, readRules, readRefusal, readAnswer, capturesRead, annotationsRead}
+use Rattle.table.specs.Summary.{summaryNumbers}
+use Rattle.claims.specs.Marked.{metadataWith, withCount, nested, capturesLent, annotationsLent, answer, captureMemory, annotationMemory, piecesLent, reads, gives, pieces, cuts, ofRecording, marked, allHold}
 use Rattle.claims.proofs.Computing.{strictly, openSteps, valueEnd, nextMember, nextElement, membersOf, elementsOf, badBy, misshapenBy, fileBy, bad-is, misshapen-is, file-is}
 
 -- ---- the rules on what the text says, then those on samples and room
 abbrev early : List ℕ → Bool → Bool → File → List Rule
-early s bad shape f =
-    rule 2 (notJson s)
-    ∷ rule 3 bad
-    ∷ rule 4 shape
-    ∷ rule 5 (inFile misnamed misnamed misnamed f)
-    ∷ rule 6 (inFile (missing globals) (missing captures) (missing annotations) f)
-    ∷ rule 7 (inFile (mistyped globals) (mistyped captures) (mistyped annotations) f)
-    ∷ rule 8 (otherVersion (f .global))
-    ∷ rule 9 (otherDatatype (f .global))
-    ∷ rule 10 (badChannels (f .global))
-    ∷ rule 11 (any badDatetime (f .captures))
-    ∷ rule 12 (badExtension s (f .global))
-    ∷ rule 13 (needsExtension s (f .global))
-    ∷ rule 14 (noDataset (f .global))
-    ∷ []
+early s bad shape f = rule 2 (notJson s) ∷ rule 3 bad ∷ rule 4 shape ∷ objectRules s f
 
 abbrev later : Contents → ℕ → List ℕ → List ℕ → List Rule
-later k d caps notes = rule 15 (unordered k) ∷ rule 16 (notWhole k d) ∷ rule 17 (outside k d) ∷ rule 20 (tooMany k caps notes) ∷ []
+later k d caps notes = sampleRules k d ++ (rule 20 (tooMany k caps notes) ∷ [])
 
 -- a text of the contents k, by the walks that compute
 abbrev computed : List ℕ → File
@@ -73,10 +64,6 @@ record Says (s : List ℕ) (k : Contents) : Type 0 where
   long : eqb (length s) 0 || ltb metadata (length s) ≡ false
   good : lowest (early s (badBy s (membersOf s) (elementsOf s) nesting (topAt s)) (misshapenBy s (membersOf s) (elementsOf s)) (computed s)) ≡ 0
   said : contentsOf (computed s) ≡ k
-
-first : (n : ℕ) (b : Bool) (rs : List Rule) → b ≡ false → lowest (rule n b ∷ rs) ≡ lowest rs
-unfolding lowest
-first n b rs e = rw e
 
 module _ (s : List ℕ) (k : Contents) (S : Says s k) where
   is-good : lowest (early s (badMembers s) (misshapen s) (fileOf s)) ≡ 0
@@ -91,9 +78,9 @@ module _ (s : List ℕ) (k : Contents) (S : Says s k) where
     fits = rw (S .long, small)
 
     refusal-is : readRefusal s d caps notes ≡ lowest (later k d caps notes)
-    unfolding readRefusal rulesOf numbered
+    unfolding readRefusal readRules rising
     refusal-is =
-        first 1 (badLength s d) _ fits ∙ lowest-then (early s (badMembers s) (misshapen s) (fileOf s)) (later (contents s) d caps notes) refl is-good
+        skip 1 (badLength s d) _ fits ∙ lowest-then 1 (early s (badMembers s) (misshapen s) (fileOf s)) (later (contents s) d caps notes) refl is-good
         ∙ ap (λ (c : Contents). lowest (later c d caps notes)) contents-are
 
     answer-is : readAnswer s d caps notes ≡ summaryOr (lowest (later k d caps notes)) k d
@@ -111,9 +98,9 @@ module _ (s : List ℕ) (k : Contents) (S : Says s k) where
 -- ---- 01's recording, with the count n of its annotation and the place of the label
 abbrev recording : ℕ → ℕ → Contents
 recording n label = record {
-  globals = record { datatype = 16; channels = 1; offset = 0; trailing = 0; rate = 0; ratelen = 0 };
+  globals = record { datatype = 16; channels = 1; offset = 0; trailing = 0; rate = record { at = 0; len = 0 } };
   captures = record { start = 0; header = 0 } ∷ record { start = 10; header = 8 } ∷ [];
-  annotations = record { start = 4; count = C.Given n; label = label; labellen = 29 } ∷ [];
+  annotations = record { start = 4; count = C.Given n; texts = record { label = record { at = label; len = 29 } } } ∷ [];
 }
 
 -- the texts of the P lines
@@ -125,7 +112,7 @@ record Texts : Type 0 where
   tooDeep : notJson (nested 32) ≡ true
 
 texts : Texts
-unfolding metadataWith strictly openSteps valueEnd nextMember nextElement membersOf elementsOf badBy misshapenBy fileBy afterItem colonAt nameAt digitsAt integerAt fractionAt exponentAt skipMinus numberAt runTurns run shortEscape escapeAt characterAt stringTurn stringAt within blank skipTurn skipWhile byteWithin itemTurn itemsAt groupAt memberAt anyValueAt valueAt isJson skipStringTurn skipString scalar unitAt utf8 decodedUnits decodedFrom same gatherSteps gather nextItem has repeated badNames any twelve datatypes listed nameByte spaceByte space rest formOk formOf pastSpace place all numberFrom globals captures annotations coreAt typeAt digitsFrom uintOf hasType lowest badDatetime valueFrom misnamed missingFrom mistyped otherVersion otherDatatype badChannels badExtension needsExtension noDataset namedFrom allObjects contentsOf
+unfolding metadataWith strictly openSteps valueEnd nextMember nextElement membersOf elementsOf badBy misshapenBy fileBy afterItem colonAt nameAt digitsAt integerAt fractionAt exponentAt skipMinus numberAt runTurns runText shortEscape escapeAt characterAt stringTurn stringAt within blank skipTurn skipWhile byteWithin itemTurn itemsAt groupAt memberAt anyValueAt valueAt isJson skipStringTurn skipString tokenByte unitAt utf8 decodedUnits decodedFrom same gatherSteps gather nextItem hasName repeated badNames any twelve datatypes isListed nameByte namespaceByte namespaceOf afterColon formOk formOf pastSpace indexIn all numberFrom globalFields captureFields annotationFields coreAt typeAt isUint uintOf hasType lowest badDatetime lastWhere misnamed missingFrom mistyped otherVersion otherDatatype badChannels badExtension needsExtension noDataset allObjects contentsOf
 texts = record {
   two = record { long = refl; good = refl; said = refl };
   twentyOne = record { long = refl; good = refl; said = refl };
@@ -147,15 +134,14 @@ summary n d = record {
   size = d;
   captures = 2;
   annotations = 1;
-  rate = 0;
-  ratelen = 0;
+  rate = record { at = 0; len = 0 };
 }
 
 -- ---- what is read: the summary and both memories
 record Reads (s : List ℕ) (d : ℕ) (t : Summary) (caps notes : List ℕ) : Type 0 where
   answered : answer s d ≡ t
-  captured : rowsOfCaptures s d ≡ caps
-  noted : annotationRows s d ≡ notes
+  captured : captureMemory s d ≡ caps
+  noted : annotationMemory s d ≡ notes
 
 module _ (s : List ℕ) (d : ℕ) where
   abbrev readsAs : ℕ → Contents → Type 0
@@ -164,7 +150,7 @@ module _ (s : List ℕ) (d : ℕ) where
       (cond (eqb n 0) (written (flat annotationNumbers (annotationsIn k d)) annotationsLent) annotationsLent)
 
   said : (k : Contents) → Says s k → ltb dataset d ≡ false → readsAs (lowest (later k d capturesLent annotationsLent)) k
-  unfolding answer rowsOfCaptures annotationRows
+  unfolding answer captureMemory annotationMemory
   said k S small = record {
     answered = answer-is s k S d small capturesLent annotationsLent;
     captured = captures-are s k S d small capturesLent annotationsLent;
@@ -172,25 +158,25 @@ module _ (s : List ℕ) (d : ℕ) where
   }
 
   -- no JSON, of a good length
-  not-json : badLength s d ≡ false → notJson s ≡ true → Reads s d (refused 2) capturesLent annotationsLent
-  unfolding answer rowsOfCaptures annotationRows readAnswer capturesRead annotationsRead
+  not-json : badLength s d ≡ false → notJson s ≡ true → Reads s d (noTable 2) capturesLent annotationsLent
+  unfolding answer captureMemory annotationMemory readAnswer capturesRead annotationsRead
   not-json e f =
-      let r : readRefusal s d capturesLent annotationsLent ≡ 2 = unfold readRefusal rulesOf lowest in rw (e, f) in
+      let r : readRefusal s d capturesLent annotationsLent ≡ 2 = unfold readRefusal readRules lowest in rw (e, f) in
       record { answered = rw r; captured = rw r; noted = rw r }
 
 record Answers : Type 0 where
   at-108 : Reads (withCount "2") 108 (summary 25 108) (0 ∷ 10 ∷ 0 ∷ 0 ∷ 10 ∷ 25 ∷ 48 ∷ 8 ∷ 7 ∷ 7 ∷ []) (4 ∷ 6 ∷ 219 ∷ 29 ∷ 7 ∷ 7 ∷ [])
-  at-107 : Reads (withCount "2") 107 (refused 16) capturesLent annotationsLent
-  at-7 : Reads (withCount "2") 7 (refused 16) capturesLent annotationsLent
+  at-107 : Reads (withCount "2") 107 (noTable 16) capturesLent annotationsLent
+  at-7 : Reads (withCount "2") 7 (noTable 16) capturesLent annotationsLent
   at-48 : Reads (withCount "2") 48 (summary 10 48) (0 ∷ 10 ∷ 0 ∷ 0 ∷ 10 ∷ 10 ∷ 48 ∷ 8 ∷ 7 ∷ 7 ∷ []) (4 ∷ 6 ∷ 219 ∷ 29 ∷ 7 ∷ 7 ∷ [])
-  at-44 : Reads (withCount "2") 44 (refused 17) capturesLent annotationsLent
-  count-22 : Reads (withCount "22") 108 (refused 17) capturesLent annotationsLent
+  at-44 : Reads (withCount "2") 44 (noTable 17) capturesLent annotationsLent
+  count-22 : Reads (withCount "22") 108 (noTable 17) capturesLent annotationsLent
   count-21 : Reads (withCount "21") 108 (summary 25 108) (0 ∷ 10 ∷ 0 ∷ 0 ∷ 10 ∷ 25 ∷ 48 ∷ 8 ∷ 7 ∷ 7 ∷ []) (4 ∷ 25 ∷ 220 ∷ 29 ∷ 7 ∷ 7 ∷ [])
-  depth-33 : Reads (nested 32) 108 (refused 2) capturesLent annotationsLent
+  depth-33 : Reads (nested 32) 108 (noTable 2) capturesLent annotationsLent
   depth-32 : Reads (nested 31) 108 (summary 25 108) (0 ∷ 10 ∷ 0 ∷ 0 ∷ 10 ∷ 25 ∷ 48 ∷ 8 ∷ 7 ∷ 7 ∷ []) (4 ∷ 6 ∷ 219 ∷ 29 ∷ 7 ∷ 7 ∷ [])
 
 answers : Answers
-unfolding metadataWith lowest twelve datatypes rowOf widthOf flat headers samplesIn ascendingFrom unordered notWhole allEntries allNotes outside nextStartLayout captureRows summaryIn tooMany badLength
+unfolding metadataWith lowest twelve datatypes datatypeOf widthOf flat headerSum samplesIn ascendingFrom unordered notWhole allEntries allNotes indexOutside nextStart captureRows summaryIn tooMany badLength
 answers = record {
   at-108 = said (withCount "2") 108 (recording 2 219) (texts .two) refl;
   at-107 = said (withCount "2") 107 (recording 2 219) (texts .two) refl;
@@ -213,12 +199,12 @@ line : (s : List ℕ) (d : ℕ) (t : Summary) (caps notes : List ℕ) → Reads 
 unfolding reads
 line s d t caps notes r = rw (r .answered, r .captured, r .noted, same-self (summaryNumbers t), same-self caps, same-self notes)
 
-table-line : (f : Summary → List ℕ → List ℕ → Bool) → f (summary 25 108) (0 ∷ 10 ∷ 0 ∷ 0 ∷ 10 ∷ 25 ∷ 48 ∷ 8 ∷ 7 ∷ 7 ∷ []) (4 ∷ 6 ∷ 219 ∷ 29 ∷ 7 ∷ 7 ∷ []) ≡ true → ofRecording f ≡ true
+table-line : (f : Table → Bool) → f (table (summary 25 108) (0 ∷ 10 ∷ 0 ∷ 0 ∷ 10 ∷ 25 ∷ 48 ∷ 8 ∷ 7 ∷ 7 ∷ []) (4 ∷ 6 ∷ 219 ∷ 29 ∷ 7 ∷ 7 ∷ [])) ≡ true → ofRecording f ≡ true
 table-line f e = rw (answers .at-108 .answered, answers .at-108 .captured, answers .at-108 .noted) e
 
 -- Document 01, "How far the promises go": "The P lines are proved of the definitions as one table under a single statement".
 pub marked-hold : allHold marked ≡ true
-unfolding allHold marked gives pieces cuts same twelve datatypes listed rowOf widthOf row captureAt annotationAt rowsFrom flat headerSum headersTo placeTable nextStart captureOk capturesOk textOk textsOk annotationOk annotationsOk formatOk countsOk sizesOk rowsOk wellFormed kept cutSummary cut cutAnswer put runs inside piecesAnswer
+unfolding allHold marked gives pieces cuts same twelve datatypes isListed datatypeOf widthOf row captureAt annotationAt rowsFrom flat headerSum headersTo placeTable nextStart captureRows ascendingFrom allEntries allLike capturesObey endsWithin textsOk allNotes annotationsObey allTexts formatOk countsOk sizesOk rowsOk wellFormed kept cutSummary cut cutAnswer put runs inside piecesAnswer
 marked-hold =
     ap allHold (λ i.
     line _ _ _ _ _ (answers .at-108) i

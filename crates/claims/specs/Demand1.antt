@@ -9,75 +9,73 @@ use Prim.Native.Nat.{ℕ, _*_}
 use lib.ListN.{length}
 use lib.Dec.{eqb, leb, ltb}
 use Rattle.limits.specs.Limits.{nesting}
-use Rattle.grammar.specs.Grammar.{Text}
+use Rattle.json_grammar.specs.Grammar.{Text}
 use Rattle.refusals.specs.Refusals.{Rule, rule, lowest, ByRules}
-use Rattle.json.specs.Judged.{judgeRules}
+use Rattle.json_judge.specs.Judged.{judgeRules}
 use Rattle.table.specs.declared.Summary.{Summary}
 use Rattle.table.specs.declared.Located.{Located}
-use Rattle.table.specs.Rows.{captureWidth, annotationWidth, annotationAt, annotationsOf}
-use Rattle.table.specs.Table.{wellFormed, refused}
+use Rattle.table.specs.Place.{nowhere}
+use Rattle.table.specs.Rows.{captureWidth, annotationWidth, annotationAt, Table, annotationsOf}
+use Rattle.table.specs.Table.{wellFormed, noTable}
 use Rattle.table.specs.Locate.{located, isSample, locateAnswer}
-use Rattle.layout.specs.Layout.{Contents, layoutRules, tooMany, judgedLayout, layoutAnswer, capturesAfter, annotationsAfter}
-use Rattle.cutting.specs.declared.Wrote.{Wrote}
-use Rattle.cutting.specs.Pieces.{wrote, pieceWidth, piecesIn, inside, piecesAnswer, piecesMemory}
-use Rattle.cutting.specs.Cut.{cutIn, cutAnswer, cutCaptureMemory, cutAnnotationMemory}
-use Rattle.cutting.specs.Copy.{bytesIn, copyAnswer, copyMemory}
-use Rattle.labels.specs.Label.{Found, labelOk, labelsOk, labelAnswer}
-use Rattle.labels.specs.Label.{refused as notFound}
-use Rattle.listing.specs.declared.Listed.{Listed}
-use Rattle.listing.specs.Listing.{listed, listingOf, listingAnswer, listingMemory}
-use Rattle.recording.specs.Reading.{judgement, readAnswer, capturesRead, annotationsRead}
-use Rattle.derived.specs.Derived.{top}
-use Rattle.derived.specs.Rules.{badNode}
+use Rattle.reader_layout.specs.Layout.{Contents, layoutRules, tooMany, judgedLayout, layoutAnswer, capturesAfter, annotationsAfter}
+use Rattle.table.specs.declared.Wrote.{Wrote}
+use Rattle.table.specs.Wrote.{wrote}
+use Rattle.table_pieces.specs.Pieces.{pieceWidth, piecesIn, inside, piecesAnswer, piecesMemory}
+use Rattle.table_cuts.specs.Cut.{cutIn, cutAnswer, cutCaptureMemory, cutAnnotationMemory}
+use Rattle.table_pieces.specs.Copy.{bytesIn, copyAnswer, copyMemory}
+use Rattle.listing_labels.specs.Label.{Found, labelOk, labelsOk, labelAnswer}
+use Rattle.listing_labels.specs.Label.{labelRefused}
+use Rattle.listing.specs.Listing.{listingOf, listingAnswer, listingMemory}
+use Rattle.reader.specs.Reading.{judgedRecording, readAnswer, capturesRead, annotationsRead}
+use Rattle.claims_derived.specs.Derived.{top}
+use Rattle.claims_derived.specs.Rules.{badNode}
 use Rattle.export_listing.specs.declared.Labelled.{Labelled}
-use Rattle.export_listing.specs.Label.{labelled}
+use Rattle.export_listing.specs.LabelPlace.{labelled}
 
 -- ---- of any call
 -- a kind of answers: the number, and the answer with a number alone
-pub record Kind (A : Type 0) : Type 0 where
+pub record AnswerKind (A : Type 0) : Type 0 where
   pub number : A → ℕ
   pub zeros : ℕ → A
 
 -- a call: its answer, and the memories lent to be written, before the call and after it
-pub record Call (A : Type 0) : Type 0 where
-  pub kind : Kind A
+pub record EntryCall (A : Type 0) : Type 0 where
+  pub kind : AnswerKind A
   pub answer : A
   pub before : List (List ℕ)
   pub after : List (List ℕ)
 
-abbrev pub numberOf : {A : Type 0} → Call A → ℕ
-numberOf c = c .kind .number (c .answer)
+abbrev pub answerNumber : {A : Type 0} → EntryCall A → ℕ
+answerNumber c = c .kind .number (c .answer)
 
-pub record Refuses {A : Type 0} (c : Call A) : Type 0 where
+pub record Refuses {A : Type 0} (c : EntryCall A) : Type 0 where
   -- "A refusal gives that number, 0 in every other number of the answer and an empty part where a part is handed back"
-  pub alone : (numberOf c ≡ 0 → ⊥) → c .answer ≡ c .kind .zeros (numberOf c)
+  pub alone : (answerNumber c ≡ 0 → ⊥) → c .answer ≡ c .kind .zeros (answerNumber c)
   -- "and every lent row and byte keeps its content"
-  pub keeps : (numberOf c ≡ 0 → ⊥) → c .after ≡ c .before
+  pub keeps : (answerNumber c ≡ 0 → ⊥) → c .after ≡ c .before
 
 -- by conditions with their numbers
-pub record RefusesBy {A : Type 0} (rules : List Rule) (c : Call A) : Type 0 where
+pub record RefusesBy {A : Type 0} (rules : List Rule) (c : EntryCall A) : Type 0 where
   -- "The answer is the smallest number whose condition holds"; "0 is acceptance"
-  pub number : ByRules (numberOf c) rules
+  pub number : ByRules (answerNumber c) rules
   pub refusal : Refuses c
 
 -- ---- the kinds of answers
-abbrev pub summaries : Kind Summary
-summaries = record { number = λ t. t .refusal; zeros = refused }
+abbrev pub summaries : AnswerKind Summary
+summaries = record { number = λ t. t .refusal; zeros = noTable }
 
-abbrev pub places : Kind Located
+abbrev pub places : AnswerKind Located
 places = record { number = λ r. r .refusal; zeros = λ n. located n 0 }
 
-abbrev pub counts : Kind Wrote
+abbrev pub counts : AnswerKind Wrote
 counts = record { number = λ r. r .refusal; zeros = λ n. wrote n 0 }
 
-abbrev pub labels : Kind Found
-labels = record { number = λ r. r .refusal; zeros = notFound }
+abbrev pub labels : AnswerKind Found
+labels = record { number = λ r. r .refusal; zeros = labelRefused }
 
-abbrev pub labelPlaces : Kind Labelled
-labelPlaces = record { number = λ r. r .refusal; zeros = λ n. record { refusal = n; present = 0; label = 0; labellen = 0 } }
-
-abbrev pub listings : Kind Listed
-listings = record { number = λ r. r .refusal; zeros = λ n. listed n 0 }
+abbrev pub labelPlaces : AnswerKind Labelled
+labelPlaces = record { number = λ r. r .refusal; zeros = λ n. record { refusal = n; present = 0; label = nowhere } }
 
 -- ---- the judge of a text alone, whose answer is a number n: 2 and 3, as the reader's
 pub record JudgedBy (s : List ℕ) (n : ℕ) : Type 0 where
@@ -87,10 +85,10 @@ pub record JudgedBy (s : List ℕ) (n : ℕ) : Type 0 where
   pub three : (t : Text nesting s) → ByRules n (rule 3 (badNode nesting (top t)) ∷ [])
 
 -- ---- the reader: its numbers are those of demand 2
-abbrev pub judging : List ℕ → ℕ → Call Summary
-judging s d = record { kind = summaries; answer = judgement s d; before = []; after = [] }
+abbrev pub judging : List ℕ → ℕ → EntryCall Summary
+judging s d = record { kind = summaries; answer = judgedRecording s d; before = []; after = [] }
 
-abbrev pub reading : List ℕ → ℕ → List ℕ → List ℕ → Call Summary
+abbrev pub reading : List ℕ → ℕ → List ℕ → List ℕ → EntryCall Summary
 reading s d caps notes = record {
   kind = summaries;
   answer = readAnswer s d caps notes;
@@ -99,10 +97,10 @@ reading s d caps notes = record {
 }
 
 -- of numbers without a text: 1, 9, 10, 15 to 17, and with rows 20
-abbrev pub summing : Contents → ℕ → Call Summary
+abbrev pub summing : Contents → ℕ → EntryCall Summary
 summing k d = record { kind = summaries; answer = judgedLayout k d; before = []; after = [] }
 
-abbrev pub laying : Contents → ℕ → List ℕ → List ℕ → Call Summary
+abbrev pub laying : Contents → ℕ → List ℕ → List ℕ → EntryCall Summary
 laying k d caps notes = record {
   kind = summaries;
   answer = layoutAnswer k d caps notes;
@@ -113,21 +111,21 @@ laying k d caps notes = record {
 abbrev pub layRules : Contents → ℕ → List ℕ → List ℕ → List Rule
 layRules k d caps notes = layoutRules k d ++ (rule 20 (tooMany k caps notes) ∷ [])
 
--- ---- of a table t with its rows in caps and notes
-module _ (t : Summary) (caps notes : List ℕ) where
+-- ---- of a table t
+module _ (t : Table) where
   -- 18: "a table handed back in is not well formed, or doesn't fit the metadata or dataset lent with it"
   abbrev pub malformed : Bool
-  malformed = not (wellFormed t caps notes)
+  malformed = not (wellFormed t)
 
   -- 19: "a sample or range is not inside the recording, a range has a > b, or an annotation number is outside the table"
   abbrev pub noSample : ℕ → Bool
-  noSample i = not (isSample t i)
+  noSample i = not (isSample (t .summary) i)
 
   abbrev pub noRange : ℕ → ℕ → Bool
-  noRange a b = not (inside t a b)
+  noRange a b = not (inside (t .summary) a b)
 
   abbrev pub noAnnotation : ℕ → Bool
-  noAnnotation n = not (ltb n (t .annotations))
+  noAnnotation n = not (ltb n (t .summary .annotations))
 
   -- 20: "the answer needs more rows, pieces or bytes than the lent memory holds"
   abbrev pub short : ℕ → List ℕ → Bool
@@ -137,65 +135,65 @@ module _ (t : Summary) (caps notes : List ℕ) where
   abbrev pub locateRules : ℕ → List Rule
   locateRules i = rule 18 malformed ∷ rule 19 (noSample i) ∷ []
 
-  abbrev pub locating : ℕ → Call Located
-  locating i = record { kind = places; answer = locateAnswer t caps notes i; before = []; after = [] }
+  abbrev pub locating : ℕ → EntryCall Located
+  locating i = record { kind = places; answer = locateAnswer t i; before = []; after = [] }
 
   -- "Label lookup (for its label) .. also answer 18 unless each present label's place ..": outside the table there is no label
   abbrev pub labelRules : List ℕ → ℕ → List Rule
-  labelRules s n = rule 18 (malformed || (ltb n (t .annotations) && not (labelOk s (annotationAt notes n)))) ∷ rule 19 (noAnnotation n) ∷ []
+  labelRules s n = rule 18 (malformed || (ltb n (t .summary .annotations) && not (labelOk s (annotationAt (t .annotations) n)))) ∷ rule 19 (noAnnotation n) ∷ []
 
-  abbrev pub labelling : List ℕ → ℕ → Call Found
-  labelling s n = record { kind = labels; answer = labelAnswer t caps notes s n; before = []; after = [] }
+  abbrev pub labelling : List ℕ → ℕ → EntryCall Found
+  labelling s n = record { kind = labels; answer = labelAnswer t s n; before = []; after = [] }
 
   -- the label's place, as C gets it
-  abbrev pub labellingPlace : List ℕ → ℕ → Call Labelled
-  labellingPlace s n = record { kind = labelPlaces; answer = labelled t caps notes s n; before = []; after = [] }
+  abbrev pub labellingPlace : List ℕ → ℕ → EntryCall Labelled
+  labellingPlace s n = record { kind = labelPlaces; answer = labelled t s n; before = []; after = [] }
 
   -- "pieces, cuts and copies give 18 to 20"
   abbrev pub piecesRules : ℕ → ℕ → List ℕ → List Rule
-  piecesRules a b m = rule 18 malformed ∷ rule 19 (noRange a b) ∷ rule 20 (short (pieceWidth * length (piecesIn t caps a b)) m) ∷ []
+  piecesRules a b m = rule 18 malformed ∷ rule 19 (noRange a b) ∷ rule 20 (short (pieceWidth * length (piecesIn t a b)) m) ∷ []
 
-  abbrev pub piecing : ℕ → ℕ → List ℕ → Call Wrote
-  piecing a b m = record { kind = counts; answer = piecesAnswer t caps notes a b (length m); before = m ∷ []; after = piecesMemory t caps notes a b m ∷ [] }
+  abbrev pub piecing : ℕ → ℕ → List ℕ → EntryCall Wrote
+  piecing a b m = record { kind = counts; answer = piecesAnswer t a b (length m); before = m ∷ []; after = piecesMemory t a b m ∷ [] }
 
   abbrev pub cutRules : ℕ → ℕ → List ℕ → List ℕ → List Rule
   cutRules a b m k =
       rule 18 malformed
       ∷ rule 19 (noRange a b)
-      ∷ rule 20 (short (captureWidth * length (cutIn t caps notes a b .captures)) m || short (annotationWidth * length (cutIn t caps notes a b .annotations)) k)
+      ∷ rule 20 (short (captureWidth * length (cutIn t a b .captures)) m || short (annotationWidth * length (cutIn t a b .annotations)) k)
       ∷ []
 
-  abbrev pub cutting : ℕ → ℕ → List ℕ → List ℕ → Call Summary
+  abbrev pub cutting : ℕ → ℕ → List ℕ → List ℕ → EntryCall Summary
   cutting a b m k = record {
     kind = summaries;
-    answer = cutAnswer t caps notes a b (length m) (length k);
+    answer = cutAnswer t a b (length m) (length k);
     before = m ∷ k ∷ [];
-    after = cutCaptureMemory t caps notes a b m k ∷ cutAnnotationMemory t caps notes a b m k ∷ [];
+    after = cutCaptureMemory t a b m k ∷ cutAnnotationMemory t a b m k ∷ [];
   }
 
   -- "a lent dataset, whose length must be D (else 18)"
   abbrev pub copyRules : List ℕ → ℕ → ℕ → List ℕ → List Rule
-  copyRules d a b m = rule 18 (malformed || not (eqb (length d) (t .size))) ∷ rule 19 (noRange a b) ∷ rule 20 (short (length (bytesIn t caps d a b)) m) ∷ []
+  copyRules d a b m = rule 18 (malformed || not (eqb (length d) (t .summary .size))) ∷ rule 19 (noRange a b) ∷ rule 20 (short (length (bytesIn t d a b)) m) ∷ []
 
-  abbrev pub copying : List ℕ → ℕ → ℕ → List ℕ → Call Wrote
-  copying d a b m = record { kind = counts; answer = copyAnswer t caps notes d a b (length m); before = m ∷ []; after = copyMemory t caps notes d a b m ∷ [] }
+  abbrev pub copying : List ℕ → ℕ → ℕ → List ℕ → EntryCall Wrote
+  copying d a b m = record { kind = counts; answer = copyAnswer t d a b (length m); before = m ∷ []; after = copyMemory t d a b m ∷ [] }
 
   -- "the listing gives 18 or 20"; "the listing (for all) also answer 18 unless each present label's place .."
   abbrev pub listingRules : List ℕ → List ℕ → List Rule
-  listingRules s m = rule 18 (malformed || not (labelsOk s (annotationsOf t notes))) ∷ rule 20 (short (length (listingOf t caps notes s)) m) ∷ []
+  listingRules s m = rule 18 (malformed || not (labelsOk s (annotationsOf t))) ∷ rule 20 (short (length (listingOf t s)) m) ∷ []
 
-  abbrev pub listing : List ℕ → List ℕ → Call Listed
-  listing s m = record { kind = listings; answer = listingAnswer t caps notes s (length m); before = m ∷ []; after = listingMemory t caps notes s m ∷ [] }
+  abbrev pub listing : List ℕ → List ℕ → EntryCall Wrote
+  listing s m = record { kind = counts; answer = listingAnswer t s (length m); before = m ∷ []; after = listingMemory t s m ∷ [] }
 
 -- ---- the entries; those of `export` and `export_listing` answer and write the same
-pub record OfTable (t : Summary) (caps notes : List ℕ) : Type 0 where
-  pub locate : (i : ℕ) → RefusesBy (locateRules t caps notes i) (locating t caps notes i)
-  pub label : (s : List ℕ) (n : ℕ) → RefusesBy (labelRules t caps notes s n) (labelling t caps notes s n)
-  pub labelPlace : (s : List ℕ) (n : ℕ) → RefusesBy (labelRules t caps notes s n) (labellingPlace t caps notes s n)
-  pub pieces : (a b : ℕ) (m : List ℕ) → RefusesBy (piecesRules t caps notes a b m) (piecing t caps notes a b m)
-  pub cut : (a b : ℕ) (m k : List ℕ) → RefusesBy (cutRules t caps notes a b m k) (cutting t caps notes a b m k)
-  pub copy : (d : List ℕ) (a b : ℕ) (m : List ℕ) → RefusesBy (copyRules t caps notes d a b m) (copying t caps notes d a b m)
-  pub list : (s m : List ℕ) → RefusesBy (listingRules t caps notes s m) (listing t caps notes s m)
+pub record OfTable (t : Table) : Type 0 where
+  pub locate : (i : ℕ) → RefusesBy (locateRules t i) (locating t i)
+  pub label : (s : List ℕ) (n : ℕ) → RefusesBy (labelRules t s n) (labelling t s n)
+  pub labelPlace : (s : List ℕ) (n : ℕ) → RefusesBy (labelRules t s n) (labellingPlace t s n)
+  pub pieces : (a b : ℕ) (m : List ℕ) → RefusesBy (piecesRules t a b m) (piecing t a b m)
+  pub cut : (a b : ℕ) (m k : List ℕ) → RefusesBy (cutRules t a b m k) (cutting t a b m k)
+  pub copy : (d : List ℕ) (a b : ℕ) (m : List ℕ) → RefusesBy (copyRules t d a b m) (copying t d a b m)
+  pub list : (s m : List ℕ) → RefusesBy (listingRules t s m) (listing t s m)
 
 pub record Demand1 : Type 0 where
   pub judgeText : (s : List ℕ) → JudgedBy s (lowest (judgeRules s))
@@ -203,4 +201,4 @@ pub record Demand1 : Type 0 where
   pub read : (s : List ℕ) (d : ℕ) (caps notes : List ℕ) → Refuses (reading s d caps notes)
   pub summary : (k : Contents) (d : ℕ) → RefusesBy (layoutRules k d) (summing k d)
   pub lay : (k : Contents) (d : ℕ) (caps notes : List ℕ) → RefusesBy (layRules k d caps notes) (laying k d caps notes)
-  pub table : (t : Summary) (caps notes : List ℕ) → OfTable t caps notes
+  pub table : (t : Table) → OfTable t

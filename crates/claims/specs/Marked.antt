@@ -5,12 +5,14 @@ use mathlib.Core.List.{List, [], _∷_, _++_}
 use Prim.Native.Nat.{ℕ}
 use Prim.Native.String.{String}
 use lib.ListN.{length, replicate}
-use Rattle.tokens.specs.Text.{ascii}
-use Rattle.decode.specs.Same.{same}
+use Rattle.json_blocks.specs.TextBytes.{ascii}
+use Rattle.json_names.specs.Same.{same}
 use Rattle.table.specs.declared.Summary.{Summary}
-use Rattle.cutting.specs.Pieces.{piecesAnswer, piecesMemory}
-use Rattle.cutting.specs.Cut.{cutAnswer, cutCaptureMemory, cutAnnotationMemory}
-use Rattle.recording.specs.Reading.{readAnswer, capturesRead, annotationsRead}
+use Rattle.table.specs.Summary.{summaryNumbers}
+use Rattle.table.specs.Rows.{Table, table}
+use Rattle.table_pieces.specs.Pieces.{piecesAnswer, piecesMemory}
+use Rattle.table_cuts.specs.Cut.{cutAnswer, cutCaptureMemory, cutAnnotationMemory}
+use Rattle.reader.specs.Reading.{readAnswer, capturesRead, annotationsRead}
 
 -- 01's recording, with a count for its annotation, and with more at the end of its top level
 unfoldable pub metadataWith : String → List ℕ → List ℕ
@@ -42,40 +44,35 @@ piecesLent = replicate 6 7
 unfoldable pub answer : List ℕ → ℕ → Summary
 answer s d = readAnswer s d capturesLent annotationsLent
 
-unfoldable pub captureRows : List ℕ → ℕ → List ℕ
-captureRows s d = capturesRead s d capturesLent annotationsLent
+unfoldable pub captureMemory : List ℕ → ℕ → List ℕ
+captureMemory s d = capturesRead s d capturesLent annotationsLent
 
-unfoldable pub annotationRows : List ℕ → ℕ → List ℕ
-annotationRows s d = annotationsRead s d capturesLent annotationsLent
-
--- "refusal, datatype code, channels, W, O, T, N, D, both counts, place and length of sample_rate"
-abbrev pub summaryNumbers : Summary → List ℕ
-summaryNumbers t =
-    t .refusal ∷ t .datatype ∷ t .channels ∷ t .width ∷ t .offset ∷ t .trailing ∷ t .samples ∷ t .size ∷ t .captures ∷ t .annotations ∷ t .rate ∷ t .ratelen ∷ []
+unfoldable pub annotationMemory : List ℕ → ℕ → List ℕ
+annotationMemory s d = annotationsRead s d capturesLent annotationsLent
 
 -- the summary and both memories afterwards
 unfoldable pub reads : List ℕ → ℕ → List ℕ → List ℕ → List ℕ → Bool
-reads s d t caps notes = same (summaryNumbers (answer s d)) t && same (captureRows s d) caps && same (annotationRows s d) notes
+reads s d t caps notes = same (summaryNumbers (answer s d)) t && same (captureMemory s d) caps && same (annotationMemory s d) notes
 
 unfoldable pub gives : List ℕ → ℕ → ℕ → Bool
 gives s d n = reads s d (n ∷ replicate 11 0) capturesLent annotationsLent
 
 -- ---- pieces and cuts of a table
 -- from a to b: the refusal n, the count c, and the memory m afterwards
-unfoldable pub pieces : ℕ → ℕ → ℕ → ℕ → List ℕ → Summary → List ℕ → List ℕ → Bool
-pieces a b n c m t caps notes =
-    let r = piecesAnswer t caps notes a b (length piecesLent) in
-    same (r .refusal ∷ r .count ∷ []) (n ∷ c ∷ []) && same (piecesMemory t caps notes a b piecesLent) m
+unfoldable pub pieces : ℕ → ℕ → ℕ → ℕ → List ℕ → Table → Bool
+pieces a b n c m t =
+    let r = piecesAnswer t a b (length piecesLent) in
+    same (r .refusal ∷ r .count ∷ []) (n ∷ c ∷ []) && same (piecesMemory t a b piecesLent) m
 
 -- the summary r, and both memories m and k afterwards
-unfoldable pub cuts : ℕ → ℕ → List ℕ → List ℕ → List ℕ → Summary → List ℕ → List ℕ → Bool
-cuts a b r m k t caps notes =
-    same (summaryNumbers (cutAnswer t caps notes a b (length capturesLent) (length annotationsLent))) r
-    && same (cutCaptureMemory t caps notes a b capturesLent annotationsLent) m && same (cutAnnotationMemory t caps notes a b capturesLent annotationsLent) k
+unfoldable pub cuts : ℕ → ℕ → List ℕ → List ℕ → List ℕ → Table → Bool
+cuts a b r m k t =
+    same (summaryNumbers (cutAnswer t a b (length capturesLent) (length annotationsLent))) r
+    && same (cutCaptureMemory t a b capturesLent annotationsLent) m && same (cutAnnotationMemory t a b capturesLent annotationsLent) k
 
 -- of the recording, as it was read
-abbrev pub ofRecording : (Summary → List ℕ → List ℕ → Bool) → Bool
-ofRecording f = f (answer (withCount "2") 108) (captureRows (withCount "2") 108) (annotationRows (withCount "2") 108)
+abbrev pub ofRecording : (Table → Bool) → Bool
+ofRecording f = f (table (answer (withCount "2") 108) (captureMemory (withCount "2") 108) (annotationMemory (withCount "2") 108))
 
 -- each P line holds
 unfoldable pub marked : List Bool

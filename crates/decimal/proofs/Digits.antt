@@ -8,9 +8,9 @@ use native.Mathlib.Nat.{pow-succ'}
 use native.Mathlib.Decide.{decLt}
 use lib.ListN.{length, getD, length-append, List·getD-append}
 use borrow.Author.Tests.{lt-ltb, le-ltb, le-leb}
-use Rattle.tokens.specs.Text.{within}
-use Rattle.tokens.specs.Lists.{all, numberFrom}
-use Rattle.tokens.specs.Number.{digit}
+use Rattle.json_blocks.specs.TextBytes.{within}
+use Rattle.json_blocks.specs.Lists.{all, numberFrom}
+use Rattle.json_tokens.specs.Number.{digit}
 use Rattle.decimal.specs.Decimal.{digitsBy, digitsOf, numberOf}
 
 -- ---- one digit more

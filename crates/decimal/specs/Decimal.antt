@@ -2,9 +2,10 @@
 use Prim.Native.Nat.{ℕ, zero, suc, _+_, _-_, _*_, _/_, _%_}
 use mathlib.Core.Bool.{Bool, true, _&&_, cond}
 use mathlib.Core.List.{List, [], _∷_, _++_}
-use lib.ListN.{length, drop}
+use lib.ListN.{length}
 use lib.Dec.{leb, ltb}
-use Rattle.tokens.specs.Lists.{numberFrom}
+use Rattle.json_blocks.specs.Lists.{numberFrom}
+use Rattle.table.specs.Memory.{written}
 
 -- the digits of n, which has at most k
 unfoldable pub digitsBy : ℕ → ℕ → List ℕ
@@ -19,13 +20,13 @@ abbrev pub numberOf : List ℕ → ℕ
 numberOf l = numberFrom 0 l
 
 -- ---- bytes put to the front of lent memory, all or none
-abbrev pub fits : List ℕ → List ℕ → Bool
-fits xs m = leb (length xs) (length m)
+abbrev pub hasRoom : List ℕ → List ℕ → Bool
+hasRoom xs m = leb (length xs) (length m)
 
 -- how many were put
 unfoldable pub putCount : List ℕ → List ℕ → ℕ
-putCount xs m = cond (fits xs m) (length xs) 0
+putCount xs m = cond (hasRoom xs m) (length xs) 0
 
 -- the memory after it
 unfoldable pub putFront : List ℕ → List ℕ → List ℕ
-putFront xs m = cond (fits xs m) (xs ++ drop (length xs) m) m
+putFront xs m = cond (hasRoom xs m) (written xs m) m

@@ -2,23 +2,24 @@
 ghost use mathlib.Core.Path.{_≡_};
 ghost use lib.ListN.{length};
 ghost use Rattle.refusals.specs.Refusals.{lowest};
-ghost use Rattle.json.specs.Judged.{judgeRules};
+ghost use Rattle.json_judge.specs.Judged.{judgeRules};
 ghost use Rattle.table.specs.Locate.{locateAnswer};
-ghost use Rattle.cutting.specs.Pieces.{piecesAnswer, piecesMemory};
-ghost use Rattle.cutting.specs.Cut.{cutAnswer, cutCaptureMemory, cutAnnotationMemory};
-ghost use Rattle.cutting.specs.Copy.{copyAnswer, copyMemory};
-ghost use Rattle.recording.specs.Reading.{readAnswer, capturesRead, annotationsRead};
-use cutting::Wrote;
-use json::Judged;
+ghost use Rattle.table.specs.Rows.{table};
+ghost use Rattle.table_pieces.specs.Pieces.{piecesAnswer, piecesMemory};
+ghost use Rattle.table_cuts.specs.Cut.{cutAnswer, cutCaptureMemory, cutAnnotationMemory};
+ghost use Rattle.table_pieces.specs.Copy.{copyAnswer, copyMemory};
+ghost use Rattle.reader.specs.Reading.{readAnswer, capturesRead, annotationsRead};
+use json_judge::Judged;
 use table::Located;
 use table::Summary;
+use table::Wrote;
 
 // Document 01's number of a text: 0, or refusal 2 or 3.
 #[no_mangle]
 pub extern "C" fn json_judge(text: &[u8]) -> u32
     ensures { λ r. ⌜ r ≡ lowest (judgeRules (now (text .entry))) ⌝ }
 {
-    let j = json::judge(text);
+    let j = json_judge::judge(text);
     match j {
         Judged::Good => 0,
         Judged::NotJson => 2,
@@ -38,13 +39,13 @@ pub extern "C" fn recording_read(
     ensures captures { λ r. ⌜ now (rows .exit) ≡ capturesRead (now (text .entry)) d (now (rows .entry)) (now (notes .entry)) ⌝ }
     ensures annotations { λ r. ⌜ now (notes .exit) ≡ annotationsRead (now (text .entry)) d (now (rows .entry)) (now (notes .entry)) ⌝ }
 {
-    recording::read(text, d, rows, notes)
+    reader::read(text, d, rows, notes)
 }
 
 // Where sample i starts.
 #[no_mangle]
 pub extern "C" fn table_locate(t: Summary, caps: &[u64], notes: &[u64], i: u64) -> Located
-    ensures { λ r. ⌜ r ≡ locateAnswer t (now (caps .entry)) (now (notes .entry)) i ⌝ }
+    ensures { λ r. ⌜ r ≡ locateAnswer (table t (now (caps .entry)) (now (notes .entry))) i ⌝ }
 {
     table::locate(t, caps, notes, i)
 }
@@ -59,10 +60,10 @@ pub extern "C" fn table_pieces(
     b: u64,
     out: &mut [u64],
 ) -> Wrote
-    ensures answer { λ r. ⌜ r ≡ piecesAnswer t (now (caps .entry)) (now (notes .entry)) a b (length (now (out .entry))) ⌝ }
-    ensures memory { λ r. ⌜ now (out .exit) ≡ piecesMemory t (now (caps .entry)) (now (notes .entry)) a b (now (out .entry)) ⌝ }
+    ensures answer { λ r. ⌜ r ≡ piecesAnswer (table t (now (caps .entry)) (now (notes .entry))) a b (length (now (out .entry))) ⌝ }
+    ensures memory { λ r. ⌜ now (out .exit) ≡ piecesMemory (table t (now (caps .entry)) (now (notes .entry))) a b (now (out .entry)) ⌝ }
 {
-    cutting::pieces(t, caps, notes, a, b, out)
+    table_pieces::pieces(t, caps, notes, a, b, out)
 }
 
 // The table of samples a to b, its rows written to the front of capto and noteto.
@@ -76,11 +77,11 @@ pub extern "C" fn table_cut(
     capto: &mut [u64],
     noteto: &mut [u64],
 ) -> Summary
-    ensures answer { λ r. ⌜ r ≡ cutAnswer t (now (caps .entry)) (now (notes .entry)) a b (length (now (capto .entry))) (length (now (noteto .entry))) ⌝ }
-    ensures captures { λ r. ⌜ now (capto .exit) ≡ cutCaptureMemory t (now (caps .entry)) (now (notes .entry)) a b (now (capto .entry)) (now (noteto .entry)) ⌝ }
-    ensures annotations { λ r. ⌜ now (noteto .exit) ≡ cutAnnotationMemory t (now (caps .entry)) (now (notes .entry)) a b (now (capto .entry)) (now (noteto .entry)) ⌝ }
+    ensures answer { λ r. ⌜ r ≡ cutAnswer (table t (now (caps .entry)) (now (notes .entry))) a b (length (now (capto .entry))) (length (now (noteto .entry))) ⌝ }
+    ensures captures { λ r. ⌜ now (capto .exit) ≡ cutCaptureMemory (table t (now (caps .entry)) (now (notes .entry))) a b (now (capto .entry)) (now (noteto .entry)) ⌝ }
+    ensures annotations { λ r. ⌜ now (noteto .exit) ≡ cutAnnotationMemory (table t (now (caps .entry)) (now (notes .entry))) a b (now (capto .entry)) (now (noteto .entry)) ⌝ }
 {
-    cutting::cut(t, caps, notes, a, b, capto, noteto)
+    table_cuts::cut(t, caps, notes, a, b, capto, noteto)
 }
 
 // The bytes of samples a to b, copied to the front of out.
@@ -94,8 +95,8 @@ pub extern "C" fn table_copy(
     b: u64,
     out: &mut [u8],
 ) -> Wrote
-    ensures answer { λ r. ⌜ r ≡ copyAnswer t (now (caps .entry)) (now (notes .entry)) (now (bytes .entry)) a b (length (now (out .entry))) ⌝ }
-    ensures memory { λ r. ⌜ now (out .exit) ≡ copyMemory t (now (caps .entry)) (now (notes .entry)) (now (bytes .entry)) a b (now (out .entry)) ⌝ }
+    ensures answer { λ r. ⌜ r ≡ copyAnswer (table t (now (caps .entry)) (now (notes .entry))) (now (bytes .entry)) a b (length (now (out .entry))) ⌝ }
+    ensures memory { λ r. ⌜ now (out .exit) ≡ copyMemory (table t (now (caps .entry)) (now (notes .entry))) (now (bytes .entry)) a b (now (out .entry)) ⌝ }
 {
-    cutting::copy(t, caps, notes, bytes, a, b, out)
+    table_pieces::copy(t, caps, notes, bytes, a, b, out)
 }

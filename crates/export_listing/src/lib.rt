@@ -3,17 +3,18 @@
 ghost use mathlib.Core.Path.{_≡_};
 ghost use lib.ListN.{length};
 ghost use Rattle.listing.specs.Listing.{listingAnswer, listingMemory};
-ghost use Rattle.export_listing.specs.Label.{labelled};
-use listing::Listed;
+ghost use Rattle.export_listing.specs.LabelPlace.{labelled};
+ghost use Rattle.table.specs.Rows.{table};
+use table::Place;
 use table::Summary;
+use table::Wrote;
 
 // A label: 1 if there is one and 0 if not, and its place and length in the metadata, or why there is none.
 #[repr(C)]
 pub struct Labelled {
     pub refusal: u64,
     pub present: u64,
-    pub label: u64,
-    pub labellen: u64,
+    pub label: Place,
 }
 
 // The label of annotation n.
@@ -25,26 +26,27 @@ pub extern "C" fn table_label(
     text: &[u8],
     n: u64,
 ) -> Labelled
-    ensures { λ r. ⌜ r ≡ labelled t (now (caps .entry)) (now (notes .entry)) (now (text .entry)) n ⌝ }
+    ensures { λ r. ⌜ r ≡ labelled (table t (now (caps .entry)) (now (notes .entry))) (now (text .entry)) n ⌝ }
 {
     let mut refusal = 0u64;
     let mut present = 0u64;
-    let part = labels::label(t, caps, notes, text, n, &mut refusal, &mut present);
+    let part = listing_labels::label(t, caps, notes, text, n, &mut refusal, &mut present);
     let len = part.len() as u64;
     if present == 1 {
         let x = table::annotation_at(notes, n as usize);
         return Labelled {
             refusal: refusal,
             present: 1,
-            label: x.label,
-            labellen: len,
+            label: Place {
+                at: x.texts.label.at,
+                len: len,
+            },
         };
     }
     Labelled {
         refusal: refusal,
         present: 0,
-        label: 0,
-        labellen: 0,
+        label: Place { at: 0, len: 0 },
     }
 }
 
@@ -56,9 +58,9 @@ pub extern "C" fn table_listing(
     notes: &[u64],
     text: &[u8],
     out: &mut [u8],
-) -> Listed
-    ensures answer { λ r. ⌜ r ≡ listingAnswer t (now (caps .entry)) (now (notes .entry)) (now (text .entry)) (length (now (out .entry))) ⌝ }
-    ensures memory { λ r. ⌜ now (out .exit) ≡ listingMemory t (now (caps .entry)) (now (notes .entry)) (now (text .entry)) (now (out .entry)) ⌝ }
+) -> Wrote
+    ensures answer { λ r. ⌜ r ≡ listingAnswer (table t (now (caps .entry)) (now (notes .entry))) (now (text .entry)) (length (now (out .entry))) ⌝ }
+    ensures memory { λ r. ⌜ now (out .exit) ≡ listingMemory (table t (now (caps .entry)) (now (notes .entry))) (now (text .entry)) (now (out .entry)) ⌝ }
 {
     listing::listing(t, caps, notes, text, out)
 }

@@ -9,11 +9,11 @@ use lib.ListN.{length, take, drop, drop-of-length-le, length-take}
 use lib.Seq.{drop-cons, getD-take}
 use lib.Dec.{eqb, leb}
 use borrow.Author.Tests.{le-leb, lt-leb, eq-eqb, ne-eqb, eqb-true}
-use Rattle.tokens.specs.Text.{byte, within}
-use Rattle.tokens.specs.Lists.{numberFrom}
-use Rattle.tokens.specs.Number.{digit, skipDigits}
-use Rattle.tokens.proofs.TextLaws.{inside, cond-elim, within-above, good-inside, skip-on, skip-out, skip-onward}
-use Rattle.tokens.proofs.NumberLaws.{no-digit}
+use Rattle.json_blocks.specs.TextBytes.{byte, within}
+use Rattle.json_blocks.specs.Lists.{numberFrom}
+use Rattle.json_tokens.specs.Number.{digit, skipDigits}
+use Rattle.json_blocks.proofs.ByteLaws.{inside, cond-elim, within-above, good-inside, skip-on, skip-out, skip-onward}
+use Rattle.json_tokens.proofs.NumberLaws.{no-digit}
 use Rattle.refusals.specs.Answer.{Answer, accepted, refused}
 use Rattle.first_line.specs.FirstLine.{digitCount, leadingNumber, isFirstLine, Line, line, firstLine}
 

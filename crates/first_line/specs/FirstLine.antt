@@ -5,8 +5,8 @@ use mathlib.Core.Bool.{Bool, _&&_, cond}
 use mathlib.Core.List.{List}
 use lib.ListN.{take}
 use lib.Dec.{leb, eqb}
-use Rattle.tokens.specs.Text.{byte, within}
-use Rattle.tokens.specs.Number.{skipDigits}
+use Rattle.json_blocks.specs.TextBytes.{byte, within}
+use Rattle.json_tokens.specs.Number.{skipDigits}
 use Rattle.refusals.specs.Answer.{Answer, accepted, refused}
 use Rattle.decimal.specs.Decimal.{numberOf}
 use Rattle.first_line.specs.declared.FirstLine.{FirstLine}

@@ -18,8 +18,8 @@ pub fn first_line(input: &[u8]) -> FirstLine
     let mut n: u64 = 0;
     let mut i: usize = 0;
     loop {
-        let b = tokens::peek(input, i);
-        if tokens::is_within(b'0', b'9', b) {
+        let b = json_blocks::peek(input, i);
+        if json_blocks::is_within(b'0', b'9', b) {
             if i >= DIGITS {
                 return FirstLine::Other;
             }

@@ -1,80 +1,15 @@
 -- Rows as lines, one after the other; and what they leave of a room.
 use Prim.Native.Nat.{ℕ, _+_, _-_, _≤_, _<_}
-use mathlib.Core.Path.{_≡_, refl, sym, ap, subst, _∙_}
-use mathlib.Core.Bool.{Bool, true, false, cond}
+use mathlib.Core.Path.{_≡_, refl, sym, ap, _∙_}
 use mathlib.Core.List.{List, [], _∷_, _++_, append-nil}
-use native.Mathlib.Omega.{arith}
 use lib.ListN.{length, length-append}
-use lib.Dec.{leb}
-use borrow.Author.Tests.{le-leb, lt-leb, leb-true, leb-false}
 use Rattle.table.specs.Rows.{rest, flat}
 use Rattle.table.proofs.RowLaws.{rest-at, rest-none}
-use Rattle.listing.specs.declared.Left.{Left}
-use Rattle.listing.specs.declared.Left.the-variants.{Bytes, Over}
-use Rattle.listing.specs.Left.{leftAfter}
-use Rattle.listing.proofs.Writing.{Writes, writes-split, writes-empty}
-
--- ---- what a number of bytes leaves of a room
-pub left-end : (left : ℕ) → Bytes left ≡ leftAfter left 0
-unfolding leftAfter
-left-end left =
-    let z : left - 0 ≡ left = omega arith in
-    rw (le-leb 0 left (omega arith), z)
-
-module _ (left l m : ℕ) where
-  pub left-over : left < l → Over ≡ leftAfter left (l + m)
-  unfolding leftAfter
-  left-over h =
-      let g : left < l + m = omega arith in
-      rw (lt-leb _ _ g)
-
-  pub left-on : l ≤ left → leftAfter (left - l) m ≡ leftAfter left (l + m)
-  unfolding leftAfter
-  left-on h = go (leb m (left - l)) refl
-    where
-      go : (t : Bool) → leb m (left - l) ≡ t → cond t (Bytes (left - l - m)) Over ≡ cond (leb (l + m) left) (Bytes (left - (l + m))) Over
-      go true e =
-          let g : l + m ≤ left = omega (arith, leb-true m (left - l) e) in
-          let z : left - l - m ≡ left - (l + m) = omega arith in
-          rw (le-leb _ _ g, z)
-      go false e =
-          let g : left < l + m = omega (arith, leb-false m (left - l) e) in
-          rw (lt-leb _ _ g)
-
-abbrev is-bytes : Left → Type 0
-is-bytes (Bytes n) = Unit {0}
-is-bytes Over = ⊥
-
-abbrev bytes-of : Left → ℕ
-bytes-of (Bytes n) = n
-bytes-of Over = 0
-
-bytes-over : (n : ℕ) → Bytes n ≡ Over → ⊥
-bytes-over n e = subst is-bytes e tt
-
-pub left-some : (room n left : ℕ) → Bytes left ≡ leftAfter room n → n ≤ room
-unfolding leftAfter
-left-some room n left e = go (leb n room) refl e
-  where
-    go : (t : Bool) → leb n room ≡ t → Bytes left ≡ cond t (Bytes (room - n)) Over → n ≤ room
-    go true q e = leb-true _ _ q
-    go false q e = absurd (bytes-over left e)
-
-pub left-bytes : (room n left : ℕ) → Bytes left ≡ leftAfter room n → left ≡ room - n
-unfolding leftAfter
-left-bytes room n left e = go (leb n room) e
-  where
-    go : (t : Bool) → Bytes left ≡ cond t (Bytes (room - n)) Over → left ≡ room - n
-    go true e = ap bytes-of e
-    go false e = absurd (bytes-over left e)
-
-pub left-none : (room n : ℕ) → Over ≡ leftAfter room n → room < n
-unfolding leftAfter
-left-none room n e = go (leb n room) refl e
-  where
-    go : (t : Bool) → leb n room ≡ t → Over ≡ cond t (Bytes (room - n)) Over → room < n
-    go true q e = absurd (bytes-over (room - n) (sym e))
-    go false q e = leb-false _ _ q
+use Rattle.listing_text.specs.declared.Left.{Left}
+use Rattle.listing_text.specs.declared.Left.the-variants.{Bytes, Over}
+use Rattle.listing_text.specs.Left.{leftAfter}
+use Rattle.listing_text.proofs.LeftLaws.{left-end, left-over, left-on, left-some, left-bytes, left-none}
+use Rattle.listing_text.proofs.Writing.{Writes, writes-split, writes-empty}
 
 module _ {A : Type 0} (f : A → List ℕ) (at : ℕ → A) (n k : ℕ) where
   pub lines-more : (x : A) → x ≡ at k → k < n → flat f (rest at n k) ≡ f x ++ flat f (rest at n (k + 1))
@@ -99,6 +34,16 @@ module _ {A : Type 0} (f : A → List ℕ) (at : ℕ → A) (n k : ℕ) where
 
       pub count-on : l ≤ left → leftAfter (left - l) (length (flat f (rest at n (k + 1)))) ≡ E
       count-on g = left-on left l (length (flat f (rest at n (k + 1)))) g ∙ ap (leftAfter left) (sym long) ∙ inv
+
+    -- the same by what the line leaves
+    module _ (x : A) (e : x ≡ at k) (h : k < n) (g : Left) (q : g ≡ leftAfter left (length (f x))) where
+      pub line-over : g ≡ Over → Over ≡ E
+      line-over w = count-over x (length (f x)) e h refl (left-none left (length (f x)) (sym w ∙ q))
+
+      pub line-on : (more : ℕ) → g ≡ Bytes more → leftAfter more (length (flat f (rest at n (k + 1)))) ≡ E
+      line-on more w =
+          ap (λ (m : ℕ). leftAfter m (length (flat f (rest at n (k + 1))))) (left-bytes left (length (f x)) more (sym w ∙ q))
+          ∙ count-on x (length (f x)) e h refl (left-some left (length (f x)) more (sym w ∙ q))
 
   -- ---- writing: the line of row k is next
   pub write-more : {F m out : List ℕ} {p : ℕ} (x : A) → x ≡ at k → k < n → Writes F m out p (flat f (rest at n k) ∷ []) → Writes F m out p (f x ∷ flat f (rest at n (k + 1)) ∷ [])

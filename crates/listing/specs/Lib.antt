@@ -1,3 +1,3 @@
 pub mod Lines
+pub mod LineParts
 pub mod Listing
-pub mod Left

@@ -1,16 +1,20 @@
 // The lines of the listing: how long each is, and each written to the front of memory that has room.
 ghost use mathlib.Core.Path.{_≡_};
-ghost use Prim.Native.Nat.{_+_, _≤_, _<_};
+ghost use Prim.Native.Nat.{_≤_};
+ghost use mathlib.Core.List.{_++_};
 ghost use lib.ListN.{length};
-ghost use Rattle.limits.specs.Limits.{metadata};
-ghost use Rattle.datatypes.specs.Datatypes.{nameOf};
+ghost use Rattle.sigmf_datatypes.specs.Datatypes.{datatypeName};
 ghost use Rattle.table.specs.Memory.{written};
 ghost use Rattle.decimal.specs.Decimal.{digitsOf};
+ghost use Rattle.listing_text.specs.Left.{leftAfter};
 ghost use Rattle.listing.specs.Lines.{field, recordingLine, captureLine, annotationLine};
-use crate::text::put_text;
-use crate::text::text_length;
+ghost use Rattle.listing.specs.LineParts.{twoFields, lastText};
+use listing_text::Left;
+use listing_text::put_text;
+use listing_text::text_left;
 use table::Annotation;
 use table::Capture;
+use table::Place;
 use table::Summary;
 
 // A word's bytes, and how many they are.
@@ -30,14 +34,14 @@ fn put_word(out: &mut [u8], word: &[u8]) -> usize
 
 // A datatype's name, and how many bytes it has.
 fn put_name(out: &mut [u8], code: u64) -> usize
-    requires { ⌜ length (nameOf code) ≤ length (now out) ⌝ }
-    ensures count { λ r. ⌜ r ≡ length (nameOf code) ⌝ }
-    ensures memory { λ r. ⌜ now (out .exit) ≡ written (nameOf code) (now (out .entry)) ⌝ }
+    requires { ⌜ length (datatypeName code) ≤ length (now out) ⌝ }
+    ensures count { λ r. ⌜ r ≡ length (datatypeName code) ⌝ }
+    ensures memory { λ r. ⌜ now (out .exit) ≡ written (datatypeName code) (now (out .entry)) ⌝ }
 {
-    let n = datatypes::name_length(code);
+    let n = sigmf_datatypes::name_length(code);
     let mut i: usize = 0;
     while i < n {
-        out[i] = datatypes::name_byte(code, i);
+        out[i] = sigmf_datatypes::name_byte(code, i);
         i += 1;
     }
     n
@@ -54,6 +58,40 @@ fn put_field(out: &mut [u8], word: &[u8], n: u64) -> usize
     a + b
 }
 
+// Two words, each with its number, and how many bytes they are.
+fn put_two(out: &mut [u8], first: &[u8], n: u64, second: &[u8], m: u64) -> usize
+    requires { ⌜ length (twoFields (now first) n (now second) m) ≤ length (now out) ⌝ }
+    ensures count { λ r. ⌜ r ≡ length (twoFields (now (first .entry)) n (now (second .entry)) m) ⌝ }
+    ensures memory { λ r. ⌜ now (out .exit) ≡ written (twoFields (now (first .entry)) n (now (second .entry)) m) (now (out .entry)) ⌝ }
+{
+    let a = put_field(out, first, n);
+    let b = put_field(&mut out[a..], second, m);
+    a + b
+}
+
+// A word and a datatype's name, and how many bytes they are.
+fn put_datatype(out: &mut [u8], word: &[u8], code: u64) -> usize
+    requires { ⌜ length (now word ++ datatypeName code) ≤ length (now out) ⌝ }
+    ensures count { λ r. ⌜ r ≡ length (now (word .entry) ++ datatypeName code) ⌝ }
+    ensures memory { λ r. ⌜ now (out .exit) ≡ written (now (word .entry) ++ datatypeName code) (now (out .entry)) ⌝ }
+{
+    let a = put_word(out, word);
+    let b = put_name(&mut out[a..], code);
+    a + b
+}
+
+// A text between a space and a line feed, and how many bytes they are.
+fn put_last(out: &mut [u8], s: &[u8], p: Place) -> usize
+    requires { ⌜ length (lastText (now s) p) ≤ length (now out) ⌝ }
+    ensures count { λ r. ⌜ r ≡ length (lastText (now (s .entry)) p) ⌝ }
+    ensures memory { λ r. ⌜ now (out .exit) ≡ written (lastText (now (s .entry)) p) (now (out .entry)) ⌝ }
+{
+    out[0] = b' ';
+    let n = 1 + put_text(&mut out[1..], s, p);
+    out[n] = b'\n';
+    n + 1
+}
+
 // How many digits a number has.
 fn number_length(n: u64) -> usize
     ensures { λ r. ⌜ (r ≡ length (digitsOf n)) × (r ≤ 20) ⌝ }
@@ -63,9 +101,9 @@ fn number_length(n: u64) -> usize
 
 // A datatype's name has so many bytes.
 fn name_length(code: u64) -> usize
-    ensures { λ r. ⌜ (r ≡ length (nameOf code)) × (r ≤ 8) ⌝ }
+    ensures { λ r. ⌜ (r ≡ length (datatypeName code)) × (r ≤ 8) ⌝ }
 {
-    datatypes::name_length(code)
+    sigmf_datatypes::name_length(code)
 }
 
 pub(crate) fn recording_length(t: Summary) -> usize
@@ -83,13 +121,18 @@ pub(crate) fn put_recording_line(out: &mut [u8], t: Summary) -> usize
     ensures count { λ r. ⌜ r ≡ length (recordingLine t) ⌝ }
     ensures memory { λ r. ⌜ now (out .exit) ≡ written (recordingLine t) (now (out .entry)) ⌝ }
 {
-    let a = put_word(out, b"recording ");
-    let b = a + put_name(&mut out[a..], t.datatype);
-    let c = b + put_field(&mut out[b..], b" channels ", t.channels);
-    let d = c + put_field(&mut out[c..], b" offset ", t.offset);
-    let e = d + put_field(&mut out[d..], b" samples ", t.samples);
-    out[e] = b'\n';
-    e + 1
+    let a = put_datatype(out, b"recording ", t.datatype);
+    let b = a
+        + put_two(
+            &mut out[a..],
+            b" channels ",
+            t.channels,
+            b" offset ",
+            t.offset,
+        );
+    let c = b + put_field(&mut out[b..], b" samples ", t.samples);
+    out[c] = b'\n';
+    c + 1
 }
 
 pub(crate) fn capture_length(x: Capture) -> usize
@@ -107,22 +150,23 @@ pub(crate) fn put_capture_line(out: &mut [u8], x: Capture) -> usize
     ensures count { λ r. ⌜ r ≡ length (captureLine x) ⌝ }
     ensures memory { λ r. ⌜ now (out .exit) ≡ written (captureLine x) (now (out .entry)) ⌝ }
 {
-    let a = put_field(out, b"capture ", x.start);
-    let b = a + put_field(&mut out[a..], b" ", x.end);
-    let c = b + put_field(&mut out[b..], b" ", x.first);
-    let d = c + put_field(&mut out[c..], b" ", x.header);
-    out[d] = b'\n';
-    d + 1
+    let a = put_two(out, b"capture ", x.start, b" ", x.end);
+    let b = a + put_two(&mut out[a..], b" ", x.first, b" ", x.header);
+    out[b] = b'\n';
+    b + 1
 }
 
-pub(crate) fn annotation_length(x: Annotation, s: &[u8]) -> usize
-    requires { ⌜ x .labellen ≤ metadata ⌝ }
-    ensures { λ r. ⌜ r ≡ length (annotationLine (now (s .entry)) x) ⌝ }
+// What an annotation's line leaves of a room.
+pub(crate) fn annotation_left(x: Annotation, s: &[u8], room: usize) -> Left
+    ensures { λ r. ⌜ r ≡ leftAfter room (length (annotationLine (now (s .entry)) x)) ⌝ }
 {
     let a = number_length(x.start);
     let b = number_length(x.end);
-    let l = text_length(s, x.label, x.labellen);
-    14 + a + b + l
+    let n = 14 + a + b;
+    if n > room {
+        return Left::Over;
+    }
+    text_left(s, x.texts.label, room - n)
 }
 
 pub(crate) fn put_annotation_line(out: &mut [u8], x: Annotation, s: &[u8]) -> usize
@@ -130,11 +174,7 @@ pub(crate) fn put_annotation_line(out: &mut [u8], x: Annotation, s: &[u8]) -> us
     ensures count { λ r. ⌜ r ≡ length (annotationLine (now (s .entry)) x) ⌝ }
     ensures memory { λ r. ⌜ now (out .exit) ≡ written (annotationLine (now (s .entry)) x) (now (out .entry)) ⌝ }
 {
-    let a = put_field(out, b"annotation ", x.start);
-    let b = a + put_field(&mut out[a..], b" ", x.end);
-    out[b] = b' ';
-    let c = b + 1;
-    let d = c + put_text(&mut out[c..], s, x.label, x.labellen);
-    out[d] = b'\n';
-    d + 1
+    let a = put_two(out, b"annotation ", x.start, b" ", x.end);
+    let b = put_last(&mut out[a..], s, x.texts.label);
+    a + b
 }

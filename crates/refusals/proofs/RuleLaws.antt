@@ -3,10 +3,10 @@ use Prim.Native.Nat.{ℕ, _≤_, _<_}
 use mathlib.Core.Path.{_≡_, refl, sym, _∙_}
 use mathlib.Core.Logic.{inl, inr, ⊎-elim}
 use mathlib.Core.Bool.{Bool, true, false, cond, not, _&&_, false≢true}
-use mathlib.Core.List.{List, [], _∷_}
+use mathlib.Core.List.{List, [], _∷_, _++_}
 use native.Mathlib.Omega.{arith}
 use lib.Dec.{eqb, ltb}
-use borrow.Author.Tests.{ltb-true, ne-eqb}
+use borrow.Author.Tests.{ltb-true, ne-eqb, eqb-true, eqb-false}
 use Rattle.refusals.specs.Refusals.{Rule, rule, lowest, noneHolds, Holds, Smallest, ByRules}
 
 -- the numbers are above n and rise
@@ -78,6 +78,50 @@ skip n b rs e = rw e
 pub stop : (n : ℕ) (b : Bool) (rs : List Rule) → b ≡ true → lowest (rule n b ∷ rs) ≡ n
 unfolding lowest
 stop n b rs e = rw e
+
+-- ---- where no rule refuses, none holds
+-- the condition with the number n
+unfoldable pub condition : ℕ → List Rule → Bool
+condition n [] = false
+condition n (r ∷ rs) = cond (eqb (r .number) n) (r .holds) (condition n rs)
+
+pub unheld : (k : ℕ) (rs : List Rule) → rising k rs ≡ true → lowest rs ≡ 0 → (n : ℕ) → condition n rs ≡ false
+unfolding lowest condition
+unheld k [] h e n = refl
+unheld k (r ∷ rs) h e n = go (r .holds) refl e (eqb (r .number) n) (λ z. unheld (r .number) rs (rises k r rs h .1) z n) where
+  go : (b : Bool) → r .holds ≡ b → cond b (r .number) (lowest rs) ≡ 0 → (c : Bool) → (lowest rs ≡ 0 → condition n rs ≡ false)
+      → cond c (r .holds) (condition n rs) ≡ false
+  go true q e c f = absurd (omega (arith, rises k r rs h .0))
+  go false q e true f = q
+  go false q e false f = f e
+
+-- ---- rules one after the other
+-- a refusal stays what it is when rules follow
+pub lowest-first : (rs qs : List Rule) → (lowest rs ≡ 0 → ⊥) → lowest (rs ++ qs) ≡ lowest rs
+unfolding lowest
+lowest-first [] qs h = absurd (h refl)
+lowest-first (r ∷ t) qs h = go (r .holds) h (lowest-first t qs)
+  where
+    go : (b : Bool) → (cond b (r .number) (lowest t) ≡ 0 → ⊥) → ((lowest t ≡ 0 → ⊥) → lowest (t ++ qs) ≡ lowest t)
+        → cond b (r .number) (lowest (t ++ qs)) ≡ cond b (r .number) (lowest t)
+    go true k f = refl
+    go false k f = f k
+
+pub lowest-before : (rs qs : List Rule) → lowest (rs ++ qs) ≡ 0 → lowest rs ≡ 0
+lowest-before rs qs e = go (eqb (lowest rs) 0) refl where
+  go : (b : Bool) → eqb (lowest rs) 0 ≡ b → lowest rs ≡ 0
+  go true q = eqb-true (lowest rs) 0 q
+  go false q = absurd (eqb-false (lowest rs) 0 q (sym (lowest-first rs qs (eqb-false (lowest rs) 0 q)) ∙ e))
+
+-- acceptance leaves the rules that follow
+pub lowest-then : (n : ℕ) (rs qs : List Rule) → rising n rs ≡ true → lowest rs ≡ 0 → lowest (rs ++ qs) ≡ lowest qs
+unfolding lowest
+lowest-then n [] qs h e = refl
+lowest-then n (r ∷ t) qs h e = let p = rises n r t h in go (r .holds) e (lowest-then (r .number) t qs (p .1)) where
+  go : (b : Bool) → cond b (r .number) (lowest t) ≡ 0 → (lowest t ≡ 0 → lowest (t ++ qs) ≡ lowest qs)
+      → cond b (r .number) (lowest (t ++ qs)) ≡ lowest qs
+  go true e f = absurd (omega (arith, rises n r t h .0))
+  go false e f = f e
 
 -- rules that rise from n on answer no number up to n but 0
 pub never : (m n : ℕ) → 0 < m → m ≤ n → (rs : List Rule) → rising n rs ≡ true → lowest rs ≡ m → ⊥

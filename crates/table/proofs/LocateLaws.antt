@@ -13,20 +13,21 @@ use borrow.Author.Tests.{le-ltb, lt-ltb, le-leb, lt-leb, leb-true, ltb-true}
 use Rattle.limits.specs.Limits.{dataset}
 use Rattle.table.specs.declared.Capture.{Capture}
 use Rattle.table.specs.declared.Summary.{Summary}
-use Rattle.table.specs.Rows.{captureAt, rest, captures, capturesOf}
+use Rattle.table.specs.Rows.{captureAt, rest, captures, table}
 use Rattle.table.specs.Samples.{headerSum, headersTo, place}
-use Rattle.table.specs.Table.{wellFormed, Laid}
+use Rattle.table.specs.Table.{ownEntries, wellFormed}
+use Rattle.table.specs.Judge.{Laid}
 use Rattle.table.specs.Locate.{located, isSample, placeIn, locateAnswer}
 use Rattle.table.proofs.Bools.{and-left, and-right}
 use Rattle.table.proofs.RowLaws.{rest-at, rest-none}
 
 -- ---- headers up to a sample
-pub headers-le : (rs : List Capture) (i : ℕ) → headersTo rs i ≤ headerSum rs
+pub headers-le : (rs : List Capture) (i : ℕ) → headersTo rs i ≤ headerSum (ownEntries rs)
 unfolding headersTo headerSum
 headers-le [] i = omega arith
 headers-le (r ∷ t) i = go (leb (r .start) i) (headers-le t i)
   where
-    go : (b : Bool) → headersTo t i ≤ headerSum t → cond b (r .header) 0 + headersTo t i ≤ r .header + headerSum t
+    go : (b : Bool) → headersTo t i ≤ headerSum (ownEntries t) → cond b (r .header) 0 + headersTo t i ≤ r .header + headerSum (ownEntries t)
     go true h = omega arith
     go false h = omega arith
 
@@ -50,7 +51,7 @@ module _ (l : List ℕ) (n k i h S : ℕ) (x : Capture) (e : x ≡ captureAt l k
       omega (arith, p, headers-out x (rest (captureAt l) n (k + 1)) i t)
 
 pub head-sum : (l : List ℕ) (n k i h : ℕ) (x : Capture) → x ≡ captureAt l k → k < n → h + headersTo (rest (captureAt l) n k) i ≡ headersTo (captures l n) i → x .start ≤ i
-    → headerSum (captures l n) < 2 ^ 63 → Fits w64 (h + x .header)
+    → headerSum (ownEntries (captures l n)) < 2 ^ 63 → Fits w64 (h + x .header)
 head-sum l n k i h x e lt q t b = omega (arith, head-in l n k i h (headersTo (captures l n) i) x e lt q t, headers-le (captures l n) i)
 
 pub head-none : (l : List ℕ) (n k i h S : ℕ) → n ≤ k → h + headersTo (rest (captureAt l) n k) i ≡ S → h ≡ S
@@ -78,7 +79,7 @@ sample-high t i h = rw (le-leb _ _ h)
 
 -- ---- its place
 module _ (t : Summary) (l : List ℕ) (L : Laid t l) where
-  pub laid-sum : headerSum (capturesOf t l) < 2 ^ 63
+  pub laid-sum : headerSum (ownEntries (captures l (t .captures))) < 2 ^ 63
   laid-sum = omega (arith, L)
 
   module _ (i : ℕ) (g : isSample t i ≡ true) where
@@ -91,28 +92,28 @@ module _ (t : Summary) (l : List ℕ) (L : Laid t l) where
         let m : i - t .offset ≤ t .samples = omega arith in
         omega (arith, mul-le-mul-right (t .width) m, L)
 
-    pub place-add : (p h : ℕ) → p ≡ (i - t .offset) * t .width → h ≡ headersTo (capturesOf t l) i → Fits w64 (p + h)
+    pub place-add : (p h : ℕ) → p ≡ (i - t .offset) * t .width → h ≡ headersTo (captures l (t .captures)) i → Fits w64 (p + h)
     place-add p h y z =
         let S = sample t i g in
         let m : i - t .offset ≤ t .samples = omega arith in
-        omega (arith, mul-le-mul-right (t .width) m, headers-le (capturesOf t l) i, L)
+        omega (arith, mul-le-mul-right (t .width) m, headers-le (captures l (t .captures)) i, L)
 
-    pub place-is : (p h : ℕ) → p ≡ (i - t .offset) * t .width → h ≡ headersTo (capturesOf t l) i → p + h ≡ placeIn t l i
+    pub place-is : (p h : ℕ) → p ≡ (i - t .offset) * t .width → h ≡ headersTo (captures l (t .captures)) i → p + h ≡ placeIn (table t l []) i
     unfolding place
     place-is p h y z = rw (y, z)
 
 -- ---- the answer
-module _ (t : Summary) (caps notes : List ℕ) (i : ℕ) (b : Bool) (e : b ≡ wellFormed t caps notes) where
-  pub loc-18 : b ≡ false → located 18 0 ≡ locateAnswer t caps notes i
+module _ (t : Summary) (caps notes : List ℕ) (i : ℕ) (b : Bool) (e : b ≡ wellFormed (table t caps notes)) where
+  pub loc-18 : b ≡ false → located 18 0 ≡ locateAnswer (table t caps notes) i
   unfolding locateAnswer
   loc-18 f = rw (sym e ∙ f)
 
   module _ (f : b ≡ true) (q : Bool) (g : q ≡ isSample t i) where
-    pub loc-19 : q ≡ false → located 19 0 ≡ locateAnswer t caps notes i
+    pub loc-19 : q ≡ false → located 19 0 ≡ locateAnswer (table t caps notes) i
     unfolding locateAnswer
     loc-19 h = rw (sym e ∙ f, sym g ∙ h)
 
-    pub loc-0 : (p : ℕ) → p ≡ placeIn t caps i → q ≡ true → located 0 p ≡ locateAnswer t caps notes i
+    pub loc-0 : (p : ℕ) → p ≡ placeIn (table t caps []) i → q ≡ true → located 0 p ≡ locateAnswer (table t caps notes) i
     unfolding locateAnswer
     loc-0 p z h = rw (sym e ∙ f, sym g ∙ h, z)
 

@@ -45,27 +45,27 @@ unfolding row
 row-none w m i h = rw (lt-leb _ _ h)
 
 module _ (m : List ℕ) (i : ℕ) where
-  pub capture-in : i < length m / 4
-      → record { start = getD m (4 * i) 0; end = getD m (4 * i + 1) 0; first = getD m (4 * i + 2) 0; header = getD m (4 * i + 3) 0 } ≡ captureAt m i
+  pub capture-in : i < length m / captureWidth
+      → record { start = getD m (captureWidth * i) 0; end = getD m (captureWidth * i + 1) 0; first = getD m (captureWidth * i + 2) 0; header = getD m (captureWidth * i + 3) 0 } ≡ captureAt m i
   unfolding captureAt
   capture-in h =
-      let g : 4 * i + 4 ≤ length m = omega arith in
-      rw (row-number 4 m i 0 g (omega arith), row-number 4 m i 1 g (omega arith), row-number 4 m i 2 g (omega arith), row-number 4 m i 3 g (omega arith), add-zero (4 * i))
+      let g : captureWidth * i + captureWidth ≤ length m = omega arith in
+      rw (row-number captureWidth m i 0 g (omega arith), row-number captureWidth m i 1 g (omega arith), row-number captureWidth m i 2 g (omega arith), row-number captureWidth m i 3 g (omega arith), add-zero (captureWidth * i))
 
-  pub capture-out : length m / 4 ≤ i → record { start = 0; end = 0; first = 0; header = 0 } ≡ captureAt m i
+  pub capture-out : length m / captureWidth ≤ i → record { start = 0; end = 0; first = 0; header = 0 } ≡ captureAt m i
   unfolding captureAt
-  capture-out h = rw (row-none 4 m i (omega arith))
+  capture-out h = rw (row-none captureWidth m i (omega arith))
 
-  pub annotation-in : i < length m / 4
-      → record { start = getD m (4 * i) 0; end = getD m (4 * i + 1) 0; label = getD m (4 * i + 2) 0; labellen = getD m (4 * i + 3) 0 } ≡ annotationAt m i
+  pub annotation-in : i < length m / annotationWidth
+      → record { start = getD m (annotationWidth * i) 0; end = getD m (annotationWidth * i + 1) 0; texts = record { label = record { at = getD m (annotationWidth * i + 2) 0; len = getD m (annotationWidth * i + 3) 0 } } } ≡ annotationAt m i
   unfolding annotationAt
   annotation-in h =
-      let g : 4 * i + 4 ≤ length m = omega arith in
-      rw (row-number 4 m i 0 g (omega arith), row-number 4 m i 1 g (omega arith), row-number 4 m i 2 g (omega arith), row-number 4 m i 3 g (omega arith), add-zero (4 * i))
+      let g : annotationWidth * i + annotationWidth ≤ length m = omega arith in
+      rw (row-number annotationWidth m i 0 g (omega arith), row-number annotationWidth m i 1 g (omega arith), row-number annotationWidth m i 2 g (omega arith), row-number annotationWidth m i 3 g (omega arith), add-zero (annotationWidth * i))
 
-  pub annotation-out : length m / 4 ≤ i → record { start = 0; end = 0; label = 0; labellen = 0 } ≡ annotationAt m i
+  pub annotation-out : length m / annotationWidth ≤ i → record { start = 0; end = 0; texts = record { label = record { at = 0; len = 0 } } } ≡ annotationAt m i
   unfolding annotationAt
-  annotation-out h = rw (row-none 4 m i (omega arith))
+  annotation-out h = rw (row-none annotationWidth m i (omega arith))
 
   -- four stores are a row
   pub put-in : (a b c d : ℕ) → i < length m / 4

@@ -10,26 +10,31 @@ use mir.Val.{Fits}
 use lib.ListN.{length}
 use lib.Dec.{leb, eqb}
 use borrow.Author.Tests.{le-leb, lt-leb, eq-eqb, ne-eqb, leb-true, leb-false, eqb-true}
-use Rattle.limits.specs.Limits.{metadata, dataset, channels}
-use Rattle.datatypes.specs.Datatypes.{listed, widthOf, sampleBytes}
-use Rattle.datatypes.proofs.Laws.{width-least}
+use Rattle.limits.specs.declared.Limits.{Limits}
+use Rattle.limits.specs.Limits.{metadata, dataset, channels, limits}
+use Rattle.sigmf_datatypes.specs.Datatypes.{isListed, widthOf, sampleBytes}
+use Rattle.sigmf_datatypes.proofs.Laws.{width-least}
 use Rattle.table.specs.declared.Capture.{Capture}
+use Rattle.table.specs.declared.Place.{Place}
+use Rattle.table.specs.declared.Texts.{Texts}
 use Rattle.table.specs.declared.Annotation.{Annotation}
 use Rattle.table.specs.declared.Summary.{Summary}
 use Rattle.table.specs.declared.Sum.{Sum}
-use Rattle.table.specs.Rows.{captureAt, annotationAt, rest, captures, capturesOf, annotations, annotationsOf}
-use Rattle.table.specs.Samples.{headerSum}
-use Rattle.table.specs.Table.{nextStart, captureOk, capturesOk, textOk, textsOk, annotationOk, annotationsOk, formatOk, countsOk, sizesOk, rowsOk, wellFormed, Laid}
-use Rattle.table.specs.Judge.{numbersOk, layoutOk, summed}
+use Rattle.table.specs.Rows.{captureWidth, annotationWidth, captureAt, annotationAt, rest, captures, annotations, table}
+use Rattle.table.specs.Samples.{headerSum, nextStart}
+use Rattle.table.specs.Place.{endsWithin}
+use Rattle.table.specs.Table.{ownEntries, capturesObey, annotationsObey, textsOk, allTexts, formatOk, countsOk, sizesOk, rowsOk, wellFormed}
+use Rattle.table.specs.Judge.{captureOk, capturesOk, annotationOk, annotationsOk, numbersOk, layoutOk, summed, Laid}
 use Rattle.table.proofs.Bools.{and-left, and-right, and-false, leb-same, same-test}
+use Rattle.table.proofs.ObeyLaws.{captures-obey, annotations-obey}
 use Rattle.table.proofs.RowLaws.{rest-more, rest-at, rest-none}
 
 -- ---- the next start
-pub next-some : (l : List ℕ) (n i e : ℕ) (x : Capture) → x ≡ captureAt l i → i < n → x .start ≡ nextStart e (rest (captureAt l) n i)
+pub next-some : (l : List ℕ) (n i e : ℕ) (x : Capture) → x ≡ captureAt l i → i < n → x .start ≡ nextStart e (ownEntries (rest (captureAt l) n i))
 unfolding nextStart
 next-some l n i e x q lt = rw (rest-more (captureAt l) n i lt, q)
 
-pub next-none : (l : List ℕ) (n i e : ℕ) → n ≤ i → e ≡ nextStart e (rest (captureAt l) n i)
+pub next-none : (l : List ℕ) (n i e : ℕ) → n ≤ i → e ≡ nextStart e (ownEntries (rest (captureAt l) n i))
 unfolding nextStart
 next-none l n i e h = rw (rest-none (captureAt l) n i h)
 
@@ -62,7 +67,7 @@ first-fits a e o w h b g =
     omega (arith, mul-le-mul-right w k)
 
 -- ---- the captures: their rules and the sum of headers, row by row
-pub sum-split : (l : List ℕ) (n i : ℕ) (x : Capture) → x ≡ captureAt l i → i < n → headerSum (rest (captureAt l) n i) ≡ x .header + headerSum (rest (captureAt l) n (i + 1))
+pub sum-split : (l : List ℕ) (n i : ℕ) (x : Capture) → x ≡ captureAt l i → i < n → headerSum (ownEntries (rest (captureAt l) n i)) ≡ x .header + headerSum (ownEntries (rest (captureAt l) n (i + 1)))
 unfolding headerSum
 sum-split l n i x e lt = rw (rest-at (captureAt l) n i x e lt)
 
@@ -70,24 +75,24 @@ pub record Summing (l : List ℕ) (n o e w cap s h i : ℕ) : Type 0 where
   pub more : i ≤ n
   pub low : o ≤ s
   pub under : h ≤ cap
-  pub sum : h + headerSum (rest (captureAt l) n i) ≡ headerSum (captures l n)
+  pub sum : h + headerSum (ownEntries (rest (captureAt l) n i)) ≡ headerSum (ownEntries (captures l n))
   pub good : capturesOk o e w s h (rest (captureAt l) n i) ≡ capturesOk o e w o 0 (captures l n)
 
 pub sum-begin : (l : List ℕ) (n o e w cap : ℕ) → Summing l n o e w cap o 0 0
 sum-begin l n o e w cap = record { more = omega arith; low = omega arith; under = omega arith; sum = omega arith; good = refl }
 
 module _ (l : List ℕ) (n o e w cap s h i : ℕ) (S : Summing l n o e w cap s h i) where
-  pub sum-done : n ≤ i → record { ok = true; total = h } ≡ summed (capturesOk o e w o 0 (captures l n)) cap (headerSum (captures l n))
+  pub sum-done : n ≤ i → record { ok = true; total = h } ≡ summed (capturesOk o e w o 0 (captures l n)) cap (headerSum (ownEntries (captures l n)))
   unfolding headerSum capturesOk
   sum-done g =
-      let z : h ≡ headerSum (captures l n) = omega (arith, S .sum, ap headerSum (rest-none (captureAt l) n i g)) in
-      let k : headerSum (captures l n) ≤ cap = omega (arith, S .under) in
+      let z : h ≡ headerSum (ownEntries (captures l n)) = omega (arith, S .sum, ap (λ (rs : List Capture). headerSum (ownEntries rs)) (rest-none (captureAt l) n i g)) in
+      let k : headerSum (ownEntries (captures l n)) ≤ cap = omega (arith, S .under) in
       rw (← S .good, rest-none (captureAt l) n i g, le-leb _ _ k, z)
 
   module _ (x : Capture) (q : x ≡ captureAt l i) (lt : i < n) where
-    pub sum-over : cap - h < x .header → record { ok = false; total = 0 } ≡ summed (capturesOk o e w o 0 (captures l n)) cap (headerSum (captures l n))
+    pub sum-over : cap - h < x .header → record { ok = false; total = 0 } ≡ summed (capturesOk o e w o 0 (captures l n)) cap (headerSum (ownEntries (captures l n)))
     sum-over g =
-        let big : cap < headerSum (captures l n) = omega (arith, S .sum, sum-split l n i x q lt) in
+        let big : cap < headerSum (ownEntries (captures l n)) = omega (arith, S .sum, sum-split l n i x q lt) in
         rw (lt-leb _ _ big, and-false (capturesOk o e w o 0 (captures l n)))
 
     module _ (g : x .header ≤ cap - h) where
@@ -97,12 +102,12 @@ module _ (l : List ℕ) (n o e w cap s h i : ℕ) (S : Summing l n o e w cap s h
       pub head-below : (m : ℕ) → m + cap < 2 ^ 63 → m + (h + x .header) < 2 ^ 63
       head-below m b = omega (arith, S .under)
 
-      module _ (next : ℕ) (k : next ≡ nextStart e (rest (captureAt l) n (i + 1))) (t : Bool) (u : t ≡ captureOk o e w s (h + x .header) next x) where
+      module _ (next : ℕ) (k : next ≡ nextStart e (ownEntries (rest (captureAt l) n (i + 1)))) (t : Bool) (u : t ≡ captureOk o e w s (h + x .header) next x) where
         split : t && capturesOk o e w (x .start) (h + x .header) (rest (captureAt l) n (i + 1)) ≡ capturesOk o e w o 0 (captures l n)
         unfolding capturesOk
         split = rw (u, k, q) (rw (rest-more (captureAt l) n i lt) at (S .good))
 
-        pub sum-bad : t ≡ false → record { ok = false; total = 0 } ≡ summed (capturesOk o e w o 0 (captures l n)) cap (headerSum (captures l n))
+        pub sum-bad : t ≡ false → record { ok = false; total = 0 } ≡ summed (capturesOk o e w o 0 (captures l n)) cap (headerSum (ownEntries (captures l n)))
         sum-bad f =
             let z : false ≡ capturesOk o e w o 0 (captures l n) = rw f at split in
             rw (← z)
@@ -147,15 +152,15 @@ module _ (t : Summary) (w1 : 1 ≤ t .width) (h : t .samples ≤ t .size / t .wi
       rw z (omega (arith, lay-part))
 
 module _ (t : Summary) (rs : List Capture) where
-  layout-facts : layoutOk t rs ≡ true → (laidOut t rs ≡ true) × (t .trailing + headerSum rs + t .samples * t .width ≡ t .size)
+  layout-facts : layoutOk t rs ≡ true → (laidOut t rs ≡ true) × (t .trailing + headerSum (ownEntries rs) + t .samples * t .width ≡ t .size)
   unfolding layoutOk
   layout-facts e = (and-left _ _ e, eqb-true _ _ (and-right (laidOut t rs) _ e))
 
-  layout-true : laidOut t rs ≡ true → t .trailing + headerSum rs + t .samples * t .width ≡ t .size → layoutOk t rs ≡ true
+  layout-true : laidOut t rs ≡ true → t .trailing + headerSum (ownEntries rs) + t .samples * t .width ≡ t .size → layoutOk t rs ≡ true
   unfolding layoutOk
   layout-true e f = rw (e, eq-eqb _ _ f)
 
-  layout-false : (t .trailing + headerSum rs + t .samples * t .width ≡ t .size → ⊥) → false ≡ layoutOk t rs
+  layout-false : (t .trailing + headerSum (ownEntries rs) + t .samples * t .width ≡ t .size → ⊥) → false ≡ layoutOk t rs
   layout-false f = same-test false (layoutOk t rs) (λ z. absurd (false≢true z)) (λ z y. f (layout-facts y .1))
 
   module _ (w1 : 1 ≤ t .width) where
@@ -171,33 +176,33 @@ module _ (t : Summary) (rs : List Capture) where
           layout-false (λ z. omega arith)
 
       module _ (g : t .trailing ≤ t .size - t .samples * t .width) (s : Sum)
-          (e : s ≡ summed (laidOut t rs) (t .size - t .samples * t .width - t .trailing) (headerSum rs)) where
+          (e : s ≡ summed (laidOut t rs) (t .size - t .samples * t .width - t .trailing) (headerSum (ownEntries rs))) where
         pub lay-bad : s .ok ≡ false → false ≡ layoutOk t rs
         lay-bad f = same-test false (layoutOk t rs) (λ z. absurd (false≢true z)) (λ z y. over (layout-facts y))
           where
-            over : (laidOut t rs ≡ true) × (t .trailing + headerSum rs + t .samples * t .width ≡ t .size) → ⊥
-            over y = let k = summed-no s (laidOut t rs) _ (headerSum rs) e f (y .0) in omega (arith, y .1)
+            over : (laidOut t rs ≡ true) × (t .trailing + headerSum (ownEntries rs) + t .samples * t .width ≡ t .size) → ⊥
+            over y = let k = summed-no s (laidOut t rs) _ (headerSum (ownEntries rs)) e f (y .0) in omega (arith, y .1)
 
         pub lay-good : s .ok ≡ true → eqb (s .total) (t .size - t .samples * t .width - t .trailing) ≡ layoutOk t rs
         lay-good f =
-            let k = summed-yes s (laidOut t rs) _ (headerSum rs) e f in
+            let k = summed-yes s (laidOut t rs) _ (headerSum (ownEntries rs)) e f in
             let p = lay-part t w1 h in
             same-test (eqb (s .total) (t .size - t .samples * t .width - t .trailing)) (layoutOk t rs)
             (λ z. layout-true (k .0) (omega (arith, eqb-true (s .total) (t .size - t .samples * t .width - t .trailing) z, k .1, p)))
             (λ z y. false≢true (sym z ∙ eq-eqb (s .total) (t .size - t .samples * t .width - t .trailing) (omega (arith, layout-facts y .1, k .1, p))))
 
 -- ---- text places
-pub text-far : (at len : ℕ) → metadata < at → false ≡ textOk at len
-unfolding textOk
-text-far at len h =
-    let k : metadata < at + len = omega arith in
+pub text-far : (p : Place) → metadata < p .at → false ≡ endsWithin p
+unfolding endsWithin
+text-far p h =
+    let k : metadata < p .at + p .len = omega arith in
     rw (lt-leb _ _ k)
 
-pub text-near : (at len : ℕ) → at ≤ metadata → leb len (metadata - at) ≡ textOk at len
-unfolding textOk
-text-near at len h = leb-same len (metadata - at) (at + len) metadata (λ z. omega arith) (λ z. omega arith)
+pub text-near : (p : Place) → p .at ≤ metadata → leb (p .len) (metadata - p .at) ≡ endsWithin p
+unfolding endsWithin
+text-near p h = leb-same (p .len) (metadata - p .at) (p .at + p .len) metadata (λ z. omega arith) (λ z. omega arith)
 
-pub texts-are : (x : Annotation) (r : Bool) → r ≡ textOk (x .label) (x .labellen) → r ≡ textsOk x
+pub texts-are : (x : Texts) (r : Bool) → r ≡ endsWithin (x .label) → r ≡ textsOk x
 unfolding textsOk
 texts-are x r e = e
 
@@ -215,7 +220,7 @@ module _ (x : Annotation) (e s : ℕ) where
   unfolding annotationOk
   note-high a b c = rw (le-leb _ _ a, le-leb _ _ b, lt-leb _ _ c)
 
-  pub note-texts : (r : Bool) → r ≡ textsOk x → s ≤ x .start → x .start ≤ x .end → x .end ≤ e → r ≡ annotationOk e s x
+  pub note-texts : (r : Bool) → r ≡ textsOk (x .texts) → s ≤ x .start → x .start ≤ x .end → x .end ≤ e → r ≡ annotationOk e s x
   unfolding annotationOk
   note-texts r q a b c = rw (le-leb _ _ a, le-leb _ _ b, le-leb _ _ c) q
 
@@ -238,7 +243,7 @@ note-done l n i e s B g b = rw (rest-none (annotationAt l) n i g) at b
 
 -- ---- the format
 record Format (t : Summary) : Type 0 where
-  code : listed (t .datatype) ≡ true
+  code : isListed (t .datatype) ≡ true
   some : 1 ≤ t .channels
   few : t .channels ≤ channels
   wide : t .width ≡ widthOf (t .datatype) (t .channels)
@@ -247,9 +252,9 @@ format-facts : (t : Summary) → formatOk t ≡ true → Format t
 unfolding formatOk
 format-facts t e =
     let k = leb 1 (t .channels) && leb (t .channels) channels in
-    let a = and-left (listed (t .datatype) && k) _ e in
-    let b = and-right (listed (t .datatype)) k a in
-    record { code = and-left (listed (t .datatype)) k a; some = leb-true _ _ (and-left (leb 1 (t .channels)) _ b); few = leb-true _ _ (and-right (leb 1 (t .channels)) _ b); wide = eqb-true _ _ (and-right (listed (t .datatype) && k) _ e) }
+    let a = and-left (isListed (t .datatype) && k) _ e in
+    let b = and-right (isListed (t .datatype)) k a in
+    record { code = and-left (isListed (t .datatype)) k a; some = leb-true _ _ (and-left (leb 1 (t .channels)) _ b); few = leb-true _ _ (and-right (leb 1 (t .channels)) _ b); wide = eqb-true _ _ (and-right (isListed (t .datatype) && k) _ e) }
 
 pub width-some : (t : Summary) → formatOk t ≡ true → 1 ≤ t .width
 width-some t e =
@@ -268,9 +273,9 @@ module _ (t : Summary) (w : ℕ) (e : w ≡ sampleBytes (t .datatype) (t .channe
 
   pub format-same : (w ≡ 0 → ⊥) → eqb (t .width) w ≡ formatOk t
   unfolding sampleBytes formatOk
-  format-same z = same-test (eqb (t .width) w) (formatOk t) (λ y. go (listed (t .datatype) && (leb 1 (t .channels) && leb (t .channels) channels)) refl (eqb-true _ _ y)) (λ y g. false≢true (sym y ∙ eq-eqb _ _ (sym (right g))))
+  format-same z = same-test (eqb (t .width) w) (formatOk t) (λ y. go (isListed (t .datatype) && (leb 1 (t .channels) && leb (t .channels) channels)) refl (eqb-true _ _ y)) (λ y g. false≢true (sym y ∙ eq-eqb _ _ (sym (right g))))
     where
-      go : (b : Bool) → listed (t .datatype) && (leb 1 (t .channels) && leb (t .channels) channels) ≡ b → t .width ≡ w → formatOk t ≡ true
+      go : (b : Bool) → isListed (t .datatype) && (leb 1 (t .channels) && leb (t .channels) channels) ≡ b → t .width ≡ w → formatOk t ≡ true
       go true q y = rw q (eq-eqb _ _ (y ∙ e ∙ rw q))
       go false q y = absurd (z (e ∙ rw q))
 
@@ -281,7 +286,7 @@ pub record Numbers (t : Summary) : Type 0 where
   pub wide : 1 ≤ t .width
   pub small : t .size ≤ dataset
   pub ends : t .offset + t .samples ≤ 2 ^ 64 - 1
-  pub rate : textOk (t .rate) (t .ratelen) ≡ true
+  pub rate : endsWithin (t .rate) ≡ true
 
 pub numbers : (t : Summary) → numbersOk t ≡ true → Numbers t
 unfolding numbersOk
@@ -305,65 +310,93 @@ module _ (t : Summary) where
     unfolding numbersOk
     num-format b = rw (eq-eqb _ _ a, sym e ∙ b)
 
-    module _ (b : f ≡ true) where
-      pub num-size : dataset < t .size → false ≡ numbersOk t
-      unfolding numbersOk
-      num-size d = rw (eq-eqb _ _ a, sym e ∙ b, lt-leb _ _ d)
+    module _ (b : f ≡ true) (l : Limits) (q : l ≡ limits) where
+      most : l .dataset ≡ dataset
+      most = ap (λ x. x .dataset) q
 
-      module _ (d : t .size ≤ dataset) (o : t .offset < 2 ^ 64) where
+      pub num-size : l .dataset < t .size → false ≡ numbersOk t
+      unfolding numbersOk
+      num-size d =
+          let k : dataset < t .size = subst (λ (x : ℕ). x < t .size) most d in
+          rw (eq-eqb _ _ a, sym e ∙ b, lt-leb _ _ k)
+
+      module _ (d : t .size ≤ l .dataset) (o : t .offset < 2 ^ 64) where
+        fits : t .size ≤ dataset
+        fits = subst (λ (x : ℕ). t .size ≤ x) most d
+
         pub num-ends : 2 ^ 64 - 1 - t .offset < t .samples → false ≡ numbersOk t
         unfolding numbersOk
         num-ends g =
             let k : 2 ^ 64 - 1 < t .offset + t .samples = omega arith in
-            rw (eq-eqb _ _ a, sym e ∙ b, le-leb _ _ d, lt-leb _ _ k)
+            rw (eq-eqb _ _ a, sym e ∙ b, le-leb _ _ fits, lt-leb _ _ k)
 
-        pub num-rate : (r : Bool) → r ≡ textOk (t .rate) (t .ratelen) → t .samples ≤ 2 ^ 64 - 1 - t .offset → r ≡ numbersOk t
+        pub num-rate : (r : Bool) → r ≡ endsWithin (t .rate) → t .samples ≤ 2 ^ 64 - 1 - t .offset → r ≡ numbersOk t
         unfolding numbersOk
-        num-rate r q g =
+        num-rate r s g =
             let k : t .offset + t .samples ≤ 2 ^ 64 - 1 = omega arith in
-            rw (eq-eqb _ _ a, sym e ∙ b, le-leb _ _ d, le-leb _ _ k) q
+            rw (eq-eqb _ _ a, sym e ∙ b, le-leb _ _ fits, le-leb _ _ k) s
 
 -- ---- a well-formed table
 pub record Formed (t : Summary) (caps notes : List ℕ) : Type 0 where
   pub nums : Numbers t
   pub laid : Laid t caps
-  pub noted : 4 * t .annotations ≤ length notes
-  pub inOrder : annotationsOk (t .offset + t .samples) (t .offset) (annotationsOf t notes) ≡ true
+  pub noted : annotationWidth * t .annotations ≤ length notes
+  pub inOrder : annotationsOk (t .offset + t .samples) (t .offset) (annotations notes (t .annotations)) ≡ true
 
-pub formed : (t : Summary) (caps notes : List ℕ) → wellFormed t caps notes ≡ true → Formed t caps notes
+pub formed : (t : Summary) (caps notes : List ℕ) → wellFormed (table t caps notes) ≡ true → Formed t caps notes
 unfolding wellFormed countsOk sizesOk rowsOk
 formed t caps notes e =
     let a = eqb (t .refusal) 0 && formatOk t in
-    let b = a && countsOk t caps notes in
-    let c = b && sizesOk t caps in
-    let x = and-left c (rowsOk t caps notes) e in
-    let y = and-left b (sizesOk t caps) x in
-    let z = and-left a (countsOk t caps notes) y in
+    let b = a && countsOk (table t caps notes) in
+    let c = b && sizesOk (table t caps notes) in
+    let x = and-left c (rowsOk (table t caps notes)) e in
+    let y = and-left b (sizesOk (table t caps notes)) x in
+    let z = and-left a (countsOk (table t caps notes)) y in
     let f = and-right (eqb (t .refusal) 0) (formatOk t) z in
-    let n = and-right a (countsOk t caps notes) y in
-    let s = and-right b (sizesOk t caps) x in
-    let r = and-right c (rowsOk t caps notes) e in
-    let s2 = and-left (eqb (t .trailing + headerSum (capturesOf t caps) + t .samples * t .width) (t .size) && leb (t .size) dataset) _ s in
-    let small = leb-true (t .size) dataset (and-right (eqb (t .trailing + headerSum (capturesOf t caps) + t .samples * t .width) (t .size)) _ s2) in
-    let ends = leb-true (t .offset + t .samples) (2 ^ 64 - 1) (and-right (eqb (t .trailing + headerSum (capturesOf t caps) + t .samples * t .width) (t .size) && leb (t .size) dataset) _ s) in
-    let r2 = and-left (laidOut t (capturesOf t caps) && annotationsOk (t .offset + t .samples) (t .offset) (annotationsOf t notes)) _ r in
+    let n = and-right a (countsOk (table t caps notes)) y in
+    let s = and-right b (sizesOk (table t caps notes)) x in
+    let r = and-right c (rowsOk (table t caps notes)) e in
+    let s2 = and-left (eqb (t .trailing + headerSum (ownEntries (captures caps (t .captures))) + t .samples * t .width) (t .size) && leb (t .size) dataset) _ s in
+    let small = leb-true (t .size) dataset (and-right (eqb (t .trailing + headerSum (ownEntries (captures caps (t .captures))) + t .samples * t .width) (t .size)) _ s2) in
+    let ends = leb-true (t .offset + t .samples) (2 ^ 64 - 1) (and-right (eqb (t .trailing + headerSum (ownEntries (captures caps (t .captures))) + t .samples * t .width) (t .size) && leb (t .size) dataset) _ s) in
+    let O = t .offset in
+    let E = t .offset + t .samples in
+    let C = captures caps (t .captures) in
+    let N = annotations notes (t .annotations) in
+    let r2 = and-left (capturesObey O E (t .width) C && annotationsObey O E N) _ r in
+    let r3 = and-right (capturesObey O E (t .width) C && annotationsObey O E N) _ r in
     record {
-      nums = record { said = eqb-true _ _ (and-left (eqb (t .refusal) 0) _ z); format = f; wide = width-some t f; small = small; ends = ends; rate = and-right (laidOut t (capturesOf t caps) && annotationsOk (t .offset + t .samples) (t .offset) (annotationsOf t notes)) _ r };
+      nums = record { said = eqb-true _ _ (and-left (eqb (t .refusal) 0) _ z); format = f; wide = width-some t f; small = small; ends = ends; rate = and-right (allTexts N) _ r3 };
       laid = record {
-        fit = leb-true _ _ (and-left (leb (4 * t .captures) (length caps)) _ n);
-        total = eqb-true _ _ (and-left (eqb (t .trailing + headerSum (capturesOf t caps) + t .samples * t .width) (t .size)) _ s2);
+        fit = leb-true _ _ (and-left (leb (captureWidth * t .captures) (length caps)) _ n);
+        total = eqb-true _ _ (and-left (eqb (t .trailing + headerSum (ownEntries (captures caps (t .captures))) + t .samples * t .width) (t .size)) _ s2);
         small = small;
         ends = ends;
-        inOrder = and-left (laidOut t (capturesOf t caps)) _ r2;
+        inOrder = captures-obey O E (t .width) C ∙ and-left (capturesObey O E (t .width) C) _ r2;
       };
-      noted = leb-true _ _ (and-right (leb (4 * t .captures) (length caps)) _ n);
-      inOrder = and-right (laidOut t (capturesOf t caps)) _ r2;
+      noted = leb-true _ _ (and-right (leb (captureWidth * t .captures) (length caps)) _ n);
+      inOrder = annotations-obey O E N ∙ rw (and-right (capturesObey O E (t .width) C) _ r2) (and-left (allTexts N) _ r3);
     }
 
-pub well-formed : (t : Summary) (caps notes : List ℕ) → Formed t caps notes → wellFormed t caps notes ≡ true
+pub well-formed : (t : Summary) (caps notes : List ℕ) → Formed t caps notes → wellFormed (table t caps notes) ≡ true
 unfolding wellFormed countsOk sizesOk rowsOk
 well-formed t caps notes F =
-    rw (eq-eqb _ _ (F .nums .said), F .nums .format, le-leb _ _ (F .laid .fit), le-leb _ _ (F .noted), eq-eqb _ _ (F .laid .total), le-leb _ _ (F .laid .small), le-leb _ _ (F .laid .ends), F .laid .inOrder, F .inOrder, F .nums .rate)
+    let N = annotations notes (t .annotations) in
+    let c = sym (captures-obey (t .offset) (t .offset + t .samples) (t .width) (captures caps (t .captures))) ∙ F .laid .inOrder in
+    let n = sym (annotations-obey (t .offset) (t .offset + t .samples) N) ∙ F .inOrder in
+    rw (
+      eq-eqb _ _ (F .nums .said),
+      F .nums .format,
+      le-leb _ _ (F .laid .fit),
+      le-leb _ _ (F .noted),
+      eq-eqb _ _ (F .laid .total),
+      le-leb _ _ (F .laid .small),
+      le-leb _ _ (F .laid .ends),
+      c,
+      and-left (annotationsObey (t .offset) (t .offset + t .samples) N) (allTexts N) n,
+      and-right (annotationsObey (t .offset) (t .offset + t .samples) N) (allTexts N) n,
+      F .nums .rate,
+    )
 
 numbers-true : (t : Summary) → Numbers t → numbersOk t ≡ true
 unfolding numbersOk
@@ -371,11 +404,11 @@ numbers-true t n = rw (eq-eqb _ _ (n .said), n .format, le-leb _ _ (n .small), l
 
 module _ (t : Summary) (caps notes : List ℕ) where
   -- what no well-formed table has
-  bad : (Formed t caps notes → ⊥) → false ≡ wellFormed t caps notes
-  bad f = same-test false (wellFormed t caps notes) (λ z. absurd (false≢true z)) (λ z e. f (formed t caps notes e))
+  bad : (Formed t caps notes → ⊥) → false ≡ wellFormed (table t caps notes)
+  bad f = same-test false (wellFormed (table t caps notes)) (λ z. absurd (false≢true z)) (λ z e. f (formed t caps notes e))
 
   module _ (b : Bool) (e : b ≡ numbersOk t) where
-    pub wf-numbers : b ≡ false → false ≡ wellFormed t caps notes
+    pub wf-numbers : b ≡ false → false ≡ wellFormed (table t caps notes)
     wf-numbers f = bad (λ F. false≢true (sym f ∙ e ∙ numbers-true t (F .nums)))
 
     module _ (f : b ≡ true) where
@@ -388,21 +421,21 @@ module _ (t : Summary) (caps notes : List ℕ) where
       pub wf-ends : t .offset + t .samples < 2 ^ 64
       wf-ends = let k = numbers t (sym e ∙ f) .ends in omega arith
 
-      pub wf-captures : length caps / 4 < t .captures → false ≡ wellFormed t caps notes
+      pub wf-captures : length caps / captureWidth < t .captures → false ≡ wellFormed (table t caps notes)
       wf-captures h = bad (λ F. omega (arith, F .laid .fit))
 
-      pub wf-annotations : length notes / 4 < t .annotations → false ≡ wellFormed t caps notes
+      pub wf-annotations : length notes / annotationWidth < t .annotations → false ≡ wellFormed (table t caps notes)
       wf-annotations h = bad (λ F. omega (arith, F .noted))
 
-      module _ (h : t .captures ≤ length caps / 4) (k : t .annotations ≤ length notes / 4) (d : Bool) (g : d ≡ layoutOk t (capturesOf t caps)) where
-        pub wf-layout : d ≡ false → false ≡ wellFormed t caps notes
-        wf-layout j = bad (λ F. false≢true (sym j ∙ g ∙ layout-true t (capturesOf t caps) (F .laid .inOrder) (F .laid .total)))
+      module _ (h : t .captures ≤ length caps / captureWidth) (k : t .annotations ≤ length notes / annotationWidth) (d : Bool) (g : d ≡ layoutOk t (captures caps (t .captures))) where
+        pub wf-layout : d ≡ false → false ≡ wellFormed (table t caps notes)
+        wf-layout j = bad (λ F. false≢true (sym j ∙ g ∙ layout-true t (captures caps (t .captures)) (F .laid .inOrder) (F .laid .total)))
 
-        pub wf-rows : (r : Bool) → d ≡ true → r ≡ annotationsOk (t .offset + t .samples) (t .offset) (annotationsOf t notes) → r ≡ wellFormed t caps notes
+        pub wf-rows : (r : Bool) → d ≡ true → r ≡ annotationsOk (t .offset + t .samples) (t .offset) (annotations notes (t .annotations)) → r ≡ wellFormed (table t caps notes)
         wf-rows r j q =
             let n = numbers t (sym e ∙ f) in
-            let l = layout-facts t (capturesOf t caps) (sym g ∙ j) in
-            same-test r (wellFormed t caps notes)
+            let l = layout-facts t (captures caps (t .captures)) (sym g ∙ j) in
+            same-test r (wellFormed (table t caps notes))
             (λ z. well-formed t caps notes (record {
               nums = n;
               laid = record { fit = omega arith; total = l .1; small = n .small; ends = n .ends; inOrder = l .0 };
@@ -412,7 +445,7 @@ module _ (t : Summary) (caps notes : List ℕ) where
             (λ z y. false≢true (sym z ∙ q ∙ formed t caps notes y .inOrder))
 
 -- of a test that said so
-module _ (t : Summary) (caps notes : List ℕ) (b : Bool) (e : b ≡ wellFormed t caps notes) (f : b ≡ true) where
+module _ (t : Summary) (caps notes : List ℕ) (b : Bool) (e : b ≡ wellFormed (table t caps notes)) (f : b ≡ true) where
   pub formed-of : Formed t caps notes
   formed-of = formed t caps notes (sym e ∙ f)
 

@@ -1,6 +1,9 @@
 pub mod Memory
 pub mod Rows
+pub mod Place
 pub mod Samples
 pub mod Table
+pub mod Summary
 pub mod Locate
 pub mod Judge
+pub mod Wrote

@@ -5,7 +5,7 @@ use mathlib.Core.List.{List}
 use lib.Dec.{leb, ltb}
 use Rattle.table.specs.declared.Summary.{Summary}
 use Rattle.table.specs.declared.Located.{Located}
-use Rattle.table.specs.Rows.{capturesOf}
+use Rattle.table.specs.Rows.{Table, capturesOf}
 use Rattle.table.specs.Samples.{place}
 use Rattle.table.specs.Table.{wellFormed}
 
@@ -17,13 +17,13 @@ unfoldable pub isSample : Summary → ℕ → Bool
 isSample t i = leb (t .offset) i && ltb i (t .offset + t .samples)
 
 -- the byte at which a sample of the table starts
-abbrev pub placeIn : Summary → List ℕ → ℕ → ℕ
-placeIn t caps i = place (t .offset) (t .width) (capturesOf t caps) i
+abbrev pub placeIn : Table → ℕ → ℕ
+placeIn t i = place (t .summary .offset) (t .summary .width) (capturesOf t) i
 
-unfoldable pub locateAnswer : Summary → List ℕ → List ℕ → ℕ → Located
-locateAnswer t caps notes i =
-    cond (wellFormed t caps notes)
-    (cond (isSample t i)
-    (located 0 (placeIn t caps i))
+unfoldable pub locateAnswer : Table → ℕ → Located
+locateAnswer t i =
+    cond (wellFormed t)
+    (cond (isSample (t .summary) i)
+    (located 0 (placeIn t i))
     (located 19 0))
     (located 18 0)

@@ -25,10 +25,10 @@ abbrev pub annotationWidth : ℕ
 annotationWidth = 4
 
 abbrev pub annotationNumbers : Annotation → List ℕ
-annotationNumbers r = r .start ∷ r .end ∷ r .label ∷ r .labellen ∷ []
+annotationNumbers r = r .start ∷ r .end ∷ r .texts .label .at ∷ r .texts .label .len ∷ []
 
 abbrev pub annotationOf : List ℕ → Annotation
-annotationOf l = record { start = getD l 0 0; end = getD l 1 0; label = getD l 2 0; labellen = getD l 3 0 }
+annotationOf l = record { start = getD l 0 0; end = getD l 1 0; texts = record { label = record { at = getD l 2 0; len = getD l 3 0 } } }
 
 unfoldable pub annotationAt : List ℕ → ℕ → Annotation
 annotationAt m i = annotationOf (row annotationWidth m i)
@@ -55,9 +55,18 @@ captures m n = rest (captureAt m) n 0
 abbrev pub annotations : List ℕ → ℕ → List Annotation
 annotations m n = rest (annotationAt m) n 0
 
--- the rows of a table: as many as its summary counts
-abbrev pub capturesOf : Summary → List ℕ → List Capture
-capturesOf t m = captures m (t .captures)
+-- a table: the summary, and the lent memories with its capture rows and its annotation rows
+pub record Table : Type 0 where
+  pub summary : Summary
+  pub captures : List ℕ
+  pub annotations : List ℕ
 
-abbrev pub annotationsOf : Summary → List ℕ → List Annotation
-annotationsOf t m = annotations m (t .annotations)
+abbrev pub table : Summary → List ℕ → List ℕ → Table
+table t caps notes = record { summary = t; captures = caps; annotations = notes }
+
+-- its rows: as many as its summary counts
+abbrev pub capturesOf : Table → List Capture
+capturesOf t = captures (t .captures) (t .summary .captures)
+
+abbrev pub annotationsOf : Table → List Annotation
+annotationsOf t = annotations (t .annotations) (t .summary .annotations)

@@ -1,79 +1,97 @@
 -- Document 01, "Rows, pieces, cuts": "A table is well formed if ..", with the rules of rows from "Where samples lie".
-use Prim.Native.Nat.{ℕ, _+_, _-_, _*_, _^_, _≤_}
-use mathlib.Core.Path.{_≡_}
+use Prim.Native.Nat.{ℕ, _+_, _-_, _*_, _^_}
 use mathlib.Core.Bool.{Bool, true, false, _&&_}
-use mathlib.Core.List.{List, [], _∷_}
+use mathlib.Core.List.{List, [], _∷_, map}
 use lib.ListN.{length}
 use lib.Dec.{leb, eqb}
-use Rattle.limits.specs.Limits.{metadata, dataset, channels}
-use Rattle.datatypes.specs.Datatypes.{listed, widthOf}
+use Rattle.limits.specs.Limits.{dataset, channels}
+use Rattle.sigmf_datatypes.specs.Datatypes.{isListed, widthOf}
 use Rattle.table.specs.declared.Capture.{Capture}
+use Rattle.table.specs.declared.Texts.{Texts}
 use Rattle.table.specs.declared.Annotation.{Annotation}
 use Rattle.table.specs.declared.Summary.{Summary}
-use Rattle.table.specs.Rows.{captureWidth, annotationWidth, capturesOf, annotationsOf}
-use Rattle.table.specs.Samples.{headerSum}
+use Rattle.table.specs.declared.CaptureEntry.{CaptureEntry}
+use Rattle.table.specs.declared.AnnotationEntry.{AnnotationEntry}
+use Rattle.table.specs.declared.Count.the-variants as C
+use Rattle.table.specs.Rows.{captureWidth, annotationWidth, Table, capturesOf, annotationsOf}
+use Rattle.table.specs.Samples.{headerSum, captureRows, annotationRow, ascending, allEntries, allNotes}
+use Rattle.table.specs.Place.{nowhere, endsWithin}
 
--- ---- the rules of rows
--- where the next capture starts, or the end of the recording
-unfoldable pub nextStart : ℕ → List Capture → ℕ
-nextStart e [] = e
-nextStart e (r ∷ t) = r .start
+-- ---- rows by themselves
+-- what a row says of its own start and header, or start and count
+abbrev pub ownEntry : Capture → CaptureEntry
+ownEntry r = record { start = r .start; header = r .header }
 
--- one capture of a recording from o to e: it starts at s, the start before it, or later, and at e at most;
--- "A capture ends where the next starts, the last at O + N"; its first byte counts the h header bytes "up to and including this capture's own"
-unfoldable pub captureOk : ℕ → ℕ → ℕ → ℕ → ℕ → ℕ → Capture → Bool
-captureOk o e w s h next r = leb s (r .start) && leb (r .start) e && eqb (r .end) next && eqb (r .first) ((r .start - o) * w + h)
+abbrev pub ownEntries : List Capture → List CaptureEntry
+ownEntries rs = map ownEntry rs
 
--- all of them, with h header bytes before the first; the first starts at s = o or later
-unfoldable pub capturesOk : ℕ → ℕ → ℕ → ℕ → ℕ → List Capture → Bool
-capturesOk o e w s h [] = true
-capturesOk o e w s h (r ∷ t) = captureOk o e w s (h + r .header) (nextStart e t) r && capturesOk o e w (r .start) (h + r .header) t
+abbrev pub ownNote : Annotation → AnnotationEntry
+ownNote r = record { start = r .start; count = C.Given (r .end - r .start); texts = r .texts }
 
--- "text places end within 61,440"
-unfoldable pub textOk : ℕ → ℕ → Bool
-textOk at len = leb (at + len) metadata
+abbrev pub ownNotes : List Annotation → List AnnotationEntry
+ownNotes rs = map ownNote rs
 
--- the texts of an annotation
-unfoldable pub textsOk : Annotation → Bool
-textsOk r = textOk (r .label) (r .labellen)
+-- start, header and texts are the row's own: its end, and a capture's first byte, are those of the row q
+abbrev pub likeCapture : Capture → Capture → Bool
+likeCapture r q = eqb (r .end) (q .end) && eqb (r .first) (q .first)
 
--- one annotation: it starts at s, the start before it, or later; "start + count ≤ O + N"; its texts have places
-unfoldable pub annotationOk : ℕ → ℕ → Annotation → Bool
-annotationOk e s r = leb s (r .start) && leb (r .start) (r .end) && leb (r .end) e && textsOk r
+abbrev pub likeAnnotation : Annotation → Annotation → Bool
+likeAnnotation r q = eqb (r .end) (q .end)
 
-unfoldable pub annotationsOk : ℕ → ℕ → List Annotation → Bool
-annotationsOk e s [] = true
-annotationsOk e s (r ∷ t) = annotationOk e s r && annotationsOk e (r .start) t
+unfoldable pub allLike : {A : Type 0} → (A → A → Bool) → List A → List A → Bool
+allLike f [] [] = true
+allLike f [] (q ∷ u) = false
+allLike f (r ∷ t) [] = false
+allLike f (r ∷ t) (q ∷ u) = f r q && allLike f t u
+
+-- captures of a recording from o to e: in order, inside, and their rows are those that their own starts and headers give
+unfoldable pub capturesObey : ℕ → ℕ → ℕ → List Capture → Bool
+capturesObey o e w rs =
+    ascending (map (λ r. r .start) rs) && allEntries o e (ownEntries rs) && allLike likeCapture rs (captureRows o w e 0 (ownEntries rs))
+
+-- annotations: the same, of their own starts and counts
+unfoldable pub annotationsObey : ℕ → ℕ → List Annotation → Bool
+annotationsObey o e rs =
+    ascending (map (λ r. r .start) rs) && allNotes o e (ownNotes rs) && allLike likeAnnotation rs (map (annotationRow e) (ownNotes rs))
+
+-- the texts of an annotation: "text places end within 61,440"
+unfoldable pub textsOk : Texts → Bool
+textsOk x = endsWithin (x .label)
+
+unfoldable pub allTexts : List Annotation → Bool
+allTexts [] = true
+allTexts (r ∷ t) = textsOk (r .texts) && allTexts t
 
 -- ---- the table, clause by clause
 -- "its code is a listed one, channels are 1 to 1,024 and W follows from both"
 unfoldable pub formatOk : Summary → Bool
-formatOk t = listed (t .datatype) && (leb 1 (t .channels) && leb (t .channels) channels) && eqb (t .width) (widthOf (t .datatype) (t .channels))
+formatOk t = isListed (t .datatype) && (leb 1 (t .channels) && leb (t .channels) channels) && eqb (t .width) (widthOf (t .datatype) (t .channels))
 
 -- "its counts fit the lent rows"
-unfoldable pub countsOk : Summary → List ℕ → List ℕ → Bool
-countsOk t caps notes = leb (captureWidth * t .captures) (length caps) && leb (annotationWidth * t .annotations) (length notes)
+unfoldable pub countsOk : Table → Bool
+countsOk t = leb (captureWidth * t .summary .captures) (length (t .captures)) && leb (annotationWidth * t .summary .annotations) (length (t .annotations))
 
 -- "T + H + N·W = D ≤ 2^48, O + N ≤ 2^64 − 1"
-unfoldable pub sizesOk : Summary → List ℕ → Bool
-sizesOk t caps =
-    eqb (t .trailing + headerSum (capturesOf t caps) + t .samples * t .width) (t .size)
-    && leb (t .size) dataset && leb (t .offset + t .samples) (2 ^ 64 - 1)
+unfoldable pub sizesOk : Table → Bool
+sizesOk t =
+    eqb (t .summary .trailing + headerSum (ownEntries (capturesOf t)) + t .summary .samples * t .summary .width) (t .summary .size)
+    && leb (t .summary .size) dataset && leb (t .summary .offset + t .summary .samples) (2 ^ 64 - 1)
 
 -- "rows obey the rules above, and text places end within 61,440"
-unfoldable pub rowsOk : Summary → List ℕ → List ℕ → Bool
-rowsOk t caps notes =
-    capturesOk (t .offset) (t .offset + t .samples) (t .width) (t .offset) 0 (capturesOf t caps)
-    && annotationsOk (t .offset + t .samples) (t .offset) (annotationsOf t notes) && textOk (t .rate) (t .ratelen)
+unfoldable pub rowsOk : Table → Bool
+rowsOk t =
+    capturesObey (t .summary .offset) (t .summary .offset + t .summary .samples) (t .summary .width) (capturesOf t)
+    && annotationsObey (t .summary .offset) (t .summary .offset + t .summary .samples) (annotationsOf t)
+    && (allTexts (annotationsOf t) && endsWithin (t .summary .rate))
 
 -- "A table is well formed if it says acceptance, its code is a listed one, channels are 1 to 1,024 and W follows from both, its counts
 -- fit the lent rows, T + H + N·W = D ≤ 2^48, O + N ≤ 2^64 − 1, rows obey the rules above, and text places end within 61,440"
-unfoldable pub wellFormed : Summary → List ℕ → List ℕ → Bool
-wellFormed t caps notes = eqb (t .refusal) 0 && formatOk t && countsOk t caps notes && sizesOk t caps && rowsOk t caps notes
+unfoldable pub wellFormed : Table → Bool
+wellFormed t = eqb (t .summary .refusal) 0 && formatOk (t .summary) && countsOk t && sizesOk t && rowsOk t
 
 -- "A refusal gives that number, 0 in every other number of the answer"
-abbrev pub refused : ℕ → Summary
-refused n = record {
+abbrev pub noTable : ℕ → Summary
+noTable n = record {
   refusal = n;
   datatype = 0;
   channels = 0;
@@ -84,14 +102,5 @@ refused n = record {
   size = 0;
   captures = 0;
   annotations = 0;
-  rate = 0;
-  ratelen = 0;
+  rate = nowhere;
 }
-
--- what a well-formed table says of its captures, as the cores of the functions ask it
-pub record Laid (t : Summary) (caps : List ℕ) : Type 0 where
-  pub fit : captureWidth * t .captures ≤ length caps
-  pub total : t .trailing + headerSum (capturesOf t caps) + t .samples * t .width ≡ t .size
-  pub small : t .size ≤ dataset
-  pub ends : t .offset + t .samples ≤ 2 ^ 64 - 1
-  pub inOrder : capturesOk (t .offset) (t .offset + t .samples) (t .width) (t .offset) 0 (capturesOf t caps) ≡ true

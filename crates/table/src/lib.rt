@@ -1,16 +1,30 @@
 // A table of a recording: its summary, its rows in lent flat memory, whether it is well formed, and the place of a sample.
 ghost use mathlib.Core.Path.{_≡_};
 ghost use mathlib.Core.Bool.{true, false};
+ghost use mathlib.Core.List.{[]};
 ghost use Prim.Native.Nat.{ℕ, _+_, _-_, _*_, _^_, _<_, _≤_};
 ghost use lib.ListN.{length};
 ghost use Rattle.limits.specs.Limits.{dataset};
 ghost use Rattle.table.specs.Memory.{putRow};
-ghost use Rattle.table.specs.Rows.{captureWidth, captureNumbers, captureAt, annotationWidth, annotationNumbers, annotationAt, rest, captures, capturesOf, annotations, annotationsOf};
-ghost use Rattle.table.specs.Samples.{headerSum, headersTo};
-ghost use Rattle.table.specs.Table.{nextStart, captureOk, capturesOk, textOk, textsOk, annotationOk, annotationsOk, formatOk, wellFormed, refused, Laid};
-ghost use Rattle.table.specs.Judge.{numbersOk, layoutOk, summed};
+ghost use Rattle.table.specs.Rows.{captureWidth, captureNumbers, captureAt, annotationWidth, annotationNumbers, annotationAt, rest, captures, annotations, table};
+ghost use Rattle.table.specs.Samples.{headerSum, nextStart, headersTo};
+ghost use Rattle.table.specs.Place.{endsWithin};
+ghost use Rattle.table.specs.Table.{ownEntries, textsOk, formatOk, wellFormed, noTable};
+ghost use Rattle.table.specs.Judge.{captureOk, capturesOk, annotationOk, annotationsOk, numbersOk, layoutOk, summed, Laid};
 ghost use Rattle.table.specs.Locate.{isSample, placeIn, locateAnswer};
 use limits::Limits;
+
+// Where a text stands in the metadata, and how many bytes it has; 0, 0 if it is absent.
+#[repr(C)]
+pub struct Place {
+    pub at: u64,
+    pub len: u64,
+}
+
+// The texts of an annotation: the raw label between its quotes.
+pub struct Texts {
+    pub label: Place,
+}
 
 // The twelve numbers of a table.
 #[repr(C)]
@@ -25,8 +39,7 @@ pub struct Summary {
     pub size: u64,
     pub captures: u64,
     pub annotations: u64,
-    pub rate: u64,
-    pub ratelen: u64,
+    pub rate: Place,
 }
 
 // A capture's row.
@@ -46,13 +59,57 @@ impl Capture {
 pub struct Annotation {
     pub start: u64,
     pub end: u64,
-    pub label: u64,
-    pub labellen: u64,
+    pub texts: Texts,
 }
 
 impl Annotation {
     // The numbers of a row.
     pub const WIDTH: usize = 4;
+}
+
+// What the global object says.
+pub struct Globals {
+    pub datatype: u64,
+    pub channels: u64,
+    pub offset: u64,
+    pub trailing: u64,
+    pub rate: Place,
+}
+
+// What a capture says of its samples.
+pub struct CaptureEntry {
+    pub start: u64,
+    pub header: u64,
+}
+
+impl CaptureEntry {
+    // The numbers of an entry in flat memory.
+    pub const WIDTH: usize = 2;
+}
+
+// How many samples an annotation says that it has.
+pub enum Count {
+    Given(u64),
+    Absent,
+}
+
+// What an annotation says of its samples, and where its texts stand.
+pub struct AnnotationEntry {
+    pub start: u64,
+    pub count: Count,
+    pub texts: Texts,
+}
+
+impl AnnotationEntry {
+    // The numbers of an entry in flat memory.
+    pub const WIDTH: usize = 5;
+}
+
+// How many pieces or bytes were written, or why none.
+#[repr(C)]
+pub struct Wrote {
+    pub refusal: u64,
+    pub count: u64,
 }
 
 // Where a sample starts, or why not.
@@ -70,7 +127,7 @@ struct Sum {
 
 // A refusal: its number and zeros.
 pub fn no_table(n: u64) -> Summary
-    ensures { λ r. ⌜ r ≡ refused n ⌝ }
+    ensures { λ r. ⌜ r ≡ noTable n ⌝ }
 {
     Summary {
         refusal: n,
@@ -83,8 +140,7 @@ pub fn no_table(n: u64) -> Summary
         size: 0,
         captures: 0,
         annotations: 0,
-        rate: 0,
-        ratelen: 0,
+        rate: Place { at: 0, len: 0 },
     }
 }
 
@@ -118,15 +174,20 @@ pub fn annotation_at(rows: &[u64], i: usize) -> Annotation
         return Annotation {
             start: rows[p],
             end: rows[p + 1],
-            label: rows[p + 2],
-            labellen: rows[p + 3],
+            texts: Texts {
+                label: Place {
+                    at: rows[p + 2],
+                    len: rows[p + 3],
+                },
+            },
         };
     }
     Annotation {
         start: 0,
         end: 0,
-        label: 0,
-        labellen: 0,
+        texts: Texts {
+            label: Place { at: 0, len: 0 },
+        },
     }
 }
 
@@ -151,14 +212,14 @@ pub fn put_annotation(out: &mut [u64], i: usize, x: Annotation)
         let p = Annotation::WIDTH * i;
         out[p] = x.start;
         out[p + 1] = x.end;
-        out[p + 2] = x.label;
-        out[p + 3] = x.labellen;
+        out[p + 2] = x.texts.label.at;
+        out[p + 3] = x.texts.label.len;
     }
 }
 
 // Where capture row i starts, or e past the last row.
 fn next_start(caps: &[u64], n: usize, i: usize, e: u64) -> u64
-    ensures { λ r. ⌜ r ≡ nextStart e (rest (captureAt (now (caps .entry))) n i) ⌝ }
+    ensures { λ r. ⌜ r ≡ nextStart e (ownEntries (rest (captureAt (now (caps .entry))) n i)) ⌝ }
 {
     if i < n {
         let y = capture_at(caps, i);
@@ -188,7 +249,7 @@ fn capture_ok(x: Capture, o: u64, e: u64, w: u64, s: u64, h: u64, next: u64) -> 
 // The header bytes of n captures, if their rows are in order and the sum is at most cap.
 fn header_sum(caps: &[u64], n: usize, o: u64, e: u64, w: u64, cap: u64) -> Sum
     requires { ⌜ (e - o) * w + cap < 2 ^ 63 ⌝ }
-    ensures { λ r. ⌜ r ≡ summed (capturesOk o e w o 0 (captures (now (caps .entry)) n)) cap (headerSum (captures (now (caps .entry)) n)) ⌝ }
+    ensures { λ r. ⌜ r ≡ summed (capturesOk o e w o 0 (captures (now (caps .entry)) n)) cap (headerSum (ownEntries (captures (now (caps .entry)) n))) ⌝ }
 {
     let mut s = o;
     let mut h: u64 = 0;
@@ -219,7 +280,7 @@ fn header_sum(caps: &[u64], n: usize, o: u64, e: u64, w: u64, cap: u64) -> Sum
 // The captures' rows are in order, and the parts of the dataset make its size.
 fn layout_ok(t: Summary, caps: &[u64]) -> bool
     requires { ⌜ (1 ≤ t .width) × (t .size ≤ dataset) × (t .offset + t .samples < 2 ^ 64) ⌝ }
-    ensures { λ r. ⌜ r ≡ layoutOk t (capturesOf t (now (caps .entry))) ⌝ }
+    ensures { λ r. ⌜ r ≡ layoutOk t (captures (now (caps .entry)) (t .captures)) ⌝ }
 {
     let o = t.offset;
     let w = t.width;
@@ -242,21 +303,21 @@ fn layout_ok(t: Summary, caps: &[u64]) -> bool
 }
 
 // A text place ends within the longest metadata.
-fn text_ok(at: u64, len: u64) -> bool
-    ensures { λ r. ⌜ r ≡ textOk at len ⌝ }
+fn ends_within(p: Place) -> bool
+    ensures { λ r. ⌜ r ≡ endsWithin p ⌝ }
 {
     let most = Limits::METADATA as u64;
-    if at > most {
+    if p.at > most {
         return false;
     }
-    len <= most - at
+    p.len <= most - p.at
 }
 
 // The texts of an annotation have places.
-fn texts_ok(x: Annotation) -> bool
+fn texts_ok(x: Texts) -> bool
     ensures { λ r. ⌜ r ≡ textsOk x ⌝ }
 {
-    text_ok(x.label, x.labellen)
+    ends_within(x.label)
 }
 
 // One annotation in order, that ends at e at most, with places for its texts.
@@ -272,7 +333,7 @@ fn annotation_ok(x: Annotation, e: u64, s: u64) -> bool
     if x.end > e {
         return false;
     }
-    texts_ok(x)
+    texts_ok(x.texts)
 }
 
 // The n annotations are in order from o on, and end at e at most.
@@ -297,7 +358,7 @@ fn annotations_ok(notes: &[u64], n: usize, e: u64, o: u64) -> bool
 fn format_ok(t: Summary) -> bool
     ensures { λ r. ⌜ r ≡ formatOk t ⌝ }
 {
-    let w = datatypes::sample_bytes(t.datatype, t.channels);
+    let w = sigmf_datatypes::sample_bytes(t.datatype, t.channels);
     if w == 0 {
         return false;
     }
@@ -312,20 +373,21 @@ fn numbers_ok(t: Summary) -> bool
         return false;
     }
     if format_ok(t) {
-        if t.size > Limits::DATASET {
+        let limits = Limits::new();
+        if t.size > limits.dataset {
             return false;
         }
         if t.samples > u64::MAX - t.offset {
             return false;
         }
-        return text_ok(t.rate, t.ratelen);
+        return ends_within(t.rate);
     }
     false
 }
 
 // The table is well formed.
 pub fn well_formed(t: Summary, caps: &[u64], notes: &[u64]) -> bool
-    ensures { λ r. ⌜ r ≡ wellFormed t (now (caps .entry)) (now (notes .entry)) ⌝ }
+    ensures { λ r. ⌜ r ≡ wellFormed (table t (now (caps .entry)) (now (notes .entry))) ⌝ }
 {
     if numbers_ok(t) {
         let n = t.annotations as usize;
@@ -345,7 +407,7 @@ pub fn well_formed(t: Summary, caps: &[u64], notes: &[u64]) -> bool
 
 // The headers of all captures, of n, that start at i or before.
 fn headers_to(caps: &[u64], n: usize, i: u64) -> u64
-    requires { ⌜ headerSum (captures (now caps) n) < 2 ^ 63 ⌝ }
+    requires { ⌜ headerSum (ownEntries (captures (now caps) n)) < 2 ^ 63 ⌝ }
     ensures { λ r. ⌜ r ≡ headersTo (captures (now (caps .entry)) n) i ⌝ }
 {
     let mut h: u64 = 0;
@@ -372,7 +434,7 @@ fn bytes_before(i: u64, o: u64, w: u64) -> u64
 // Where sample i of a well-formed table starts.
 pub(crate) fn sample_place(t: Summary, caps: &[u64], i: u64) -> u64
     requires { ⌜ Laid t (now caps) × (isSample t i ≡ true) ⌝ }
-    ensures { λ r. ⌜ r ≡ placeIn t (now (caps .entry)) i ⌝ }
+    ensures { λ r. ⌜ r ≡ placeIn (table t (now (caps .entry)) []) i ⌝ }
 {
     let h = headers_to(caps, t.captures as usize, i);
     bytes_before(i, t.offset, t.width) + h
@@ -391,7 +453,7 @@ pub(crate) fn is_sample(t: Summary, i: u64) -> bool
 
 // Where sample i starts.
 pub fn locate(t: Summary, caps: &[u64], notes: &[u64], i: u64) -> Located
-    ensures { λ r. ⌜ r ≡ locateAnswer t (now (caps .entry)) (now (notes .entry)) i ⌝ }
+    ensures { λ r. ⌜ r ≡ locateAnswer (table t (now (caps .entry)) (now (notes .entry))) i ⌝ }
 {
     if well_formed(t, caps, notes) {
         if is_sample(t, i) {

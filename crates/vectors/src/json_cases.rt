@@ -1,78 +1,63 @@
-ghost use Prim.Native.Nat.{_<_};
-ghost use lib.ListN.{length};
-ghost use Rattle.vectors.specs.Fits.{Fits};
-use crate::line::Line;
+use crate::print::line;
+use crate::print::two;
 use crate::sum::EMPTY;
 use crate::sum::Sum;
 use crate::sum::mix;
-use json::Judged;
-use json::judge;
-use members::Element;
-use members::ElementStep;
-use members::Member;
-use members::MemberStep;
-use members::next_element;
-use members::next_member;
-use tokens::Cursor;
-use tokens::peek;
+use crate::sum::print_sum;
+use json_blocks::Cursor;
+use json_blocks::peek;
+use json_judge::Judged;
+use json_judge::judge;
+use json_walk::Element;
+use json_walk::ElementStep;
+use json_walk::Member;
+use json_walk::MemberStep;
+use json_walk::next_element;
+use json_walk::next_member;
 
 // `j`: the refusal of a text; or its top-level value's kind, how many parts that has, and the checksum of their places.
-pub(crate) fn answer(s: &[u8]) -> Line
-    ensures { λ r. ⌜ Fits r ⌝ }
-{
+pub(crate) fn answer(s: &[u8]) -> bool {
     let j = judge(s);
     match j {
         Judged::Good => top(s),
-        Judged::NotJson => Line::new().word(b"j 2"),
-        Judged::BadMembers => Line::new().word(b"j 3"),
+        Judged::NotJson => line(b"j 2"),
+        Judged::BadMembers => line(b"j 3"),
     }
 }
 
-fn top(s: &[u8]) -> Line
-    ensures { λ r. ⌜ Fits r ⌝ }
-{
+fn top(s: &[u8]) -> bool {
     let c = Cursor { at: 0 }.skip_blanks(s);
     let at = c.at;
     let b = peek(s, at);
     if b == b'{' {
-        let m = members_sum(s, first_part(s, at));
-        return Line::new().word(b"j 0 object").sum(m);
+        return print_sum(b"j 0 object", members_sum(s, first_part(s, at)));
     }
     if b == b'[' {
-        let e = elements_sum(s, first_part(s, at));
-        return Line::new().word(b"j 0 array").sum(e);
+        return print_sum(b"j 0 array", elements_sum(s, first_part(s, at)));
     }
     scalar(b)
 }
 
 // A value with no parts, by its first byte.
-fn scalar(b: u8) -> Line
-    ensures { λ r. ⌜ Fits r ⌝ }
-{
-    let none = Sum {
-        count: 0,
-        hash: EMPTY,
-    };
-    if b == b'"' {
-        return Line::new().word(b"j 0 string").sum(none);
+fn scalar(b: u8) -> bool {
+    match b {
+        b'"' => no_parts(b"j 0 string"),
+        b't' => no_parts(b"j 0 true"),
+        b'f' => no_parts(b"j 0 false"),
+        b'n' => no_parts(b"j 0 null"),
+        _ => no_parts(b"j 0 number"),
     }
-    if b == b't' {
-        return Line::new().word(b"j 0 true").sum(none);
-    }
-    if b == b'f' {
-        return Line::new().word(b"j 0 false").sum(none);
-    }
-    if b == b'n' {
-        return Line::new().word(b"j 0 null").sum(none);
-    }
-    Line::new().word(b"j 0 number").sum(none)
+}
+
+fn no_parts(w: &[u8]) -> bool {
+    two(w, 0, EMPTY)
 }
 
 // The place of the first part, or of the close, after the opening byte at a place.
-fn first_part(s: &[u8], at: usize) -> usize
-    requires { ⌜ at < length (now s) ⌝ }
-{
-    let c = Cursor { at: at + 1 }.skip_blanks(s);
+fn first_part(s: &[u8], at: usize) -> usize {
+    let c = Cursor {
+        at: std::num::wrapping_add_usize(at, 1),
+    }.skip_blanks(s);
     c.at
 }
 

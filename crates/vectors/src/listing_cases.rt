@@ -1,17 +1,20 @@
 // Answers about labels, the listing and the program's first line.
-ghost use Rattle.vectors.specs.Fits.{Fits};
-use crate::line::Line;
 use crate::memory::fill_bytes;
 use crate::numbers::at;
 use crate::numbers::past_numbers;
 use crate::parts::front_bytes;
 use crate::parts::past;
+use crate::print::line;
+use crate::print::number;
+use crate::print::three;
+use crate::print::two;
+use crate::print::word;
 use crate::sum::sum_bytes;
 use crate::table_cases::summary;
 use first_line::FirstLine;
 use first_line::first_line;
-use labels::label;
 use listing::listing;
+use listing_labels::label;
 use table::Summary;
 
 // The most bytes of lent output.
@@ -46,25 +49,27 @@ fn run_label(t: Summary, caps: &[u64], notes: &[u64], s: &[u8], n: u64) -> bool 
     let mut refusal = 0u64;
     let mut present = 0u64;
     let part = label(t, caps, notes, s, n, &mut refusal, &mut present);
-    let l = Line::new().word(b"l").number(refusal).number(present);
-    l.number(part.len() as u64).number(sum_bytes(part)).print()
+    print_label(refusal, present, part)
+}
+
+fn print_label(refusal: u64, present: u64, part: &[u8]) -> bool {
+    word(b"l");
+    number(refusal);
+    three(b"", present, part.len() as u64, sum_bytes(part))
 }
 
 // `p`: the refusal, how many bytes were written, and the checksum of the lent output.
 fn listing_to(t: Summary, caps: &[u64], notes: &[u64], s: &[u8], out: &mut [u8]) -> bool {
     fill_bytes(out);
     let r = listing(t, caps, notes, s, out);
-    let l = Line::new().word(b"p").number(r.refusal);
-    l.number(r.bytes).number(sum_bytes(out)).print()
+    three(b"p", r.refusal, r.count, sum_bytes(out))
 }
 
 // `q`: whether the first line has the form, the dataset's length and the place past the line feed.
-pub(crate) fn answer_first_line(input: &[u8]) -> Line
-    ensures { λ r. ⌜ Fits r ⌝ }
-{
+pub(crate) fn answer_first_line(input: &[u8]) -> bool {
     let r = first_line(input);
     match r {
-        FirstLine::Size(d, at) => Line::new().word(b"q 1").number(d).number(at as u64),
-        FirstLine::Other => Line::new().word(b"q 0"),
+        FirstLine::Size(d, at) => two(b"q 1", d, at as u64),
+        FirstLine::Other => line(b"q 0"),
     }
 }

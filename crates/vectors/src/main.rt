@@ -4,12 +4,12 @@ mod body_cases;
 mod field_cases;
 mod frames;
 mod json_cases;
-mod line;
 mod listing_cases;
 mod memory;
 mod numbers;
 mod operations;
 mod parts;
+mod print;
 mod reading_cases;
 mod steps_cases;
 mod sum;
@@ -26,9 +26,9 @@ use crate::field_cases::answer_uint;
 use crate::field_cases::answer_version;
 use crate::frames::Header;
 use crate::frames::read_header;
-use crate::line::stop;
 use crate::listing_cases::answer_first_line;
 use crate::parts::front_bytes;
+use crate::print::stop;
 use crate::reading_cases::run_reading;
 use crate::table_cases::NUMBERS;
 use crate::table_cases::run_table;
@@ -78,14 +78,14 @@ fn run_on(letter: u8, payload: &mut [u8]) -> bool {
 
 fn answer(letter: u8, payload: &[u8]) -> bool {
     match letter {
-        b'j' => json_cases::answer(payload).print(),
-        b's' => body_cases::answer(payload).print(),
-        b'e' => compare_parts(payload).print(),
+        b'j' => json_cases::answer(payload),
+        b's' => body_cases::answer(payload),
+        b'e' => compare_parts(payload),
         b't' => run_table(letter, payload),
         b'z' => run_table(letter, payload),
         b'l' => run_table(letter, payload),
         b'p' => run_table(letter, payload),
-        b'q' => answer_first_line(payload).print(),
+        b'q' => answer_first_line(payload),
         b'r' => run_reading(payload),
         _ => answer_field(letter, payload),
     }
@@ -93,16 +93,16 @@ fn answer(letter: u8, payload: &[u8]) -> bool {
 
 fn answer_field(letter: u8, payload: &[u8]) -> bool {
     match letter {
-        b'u' => answer_uint(payload).print(),
-        b'd' => answer_datatype(payload).print(),
-        b'v' => answer_version(payload).print(),
-        b'm' => answer_datetime(payload).print(),
-        b'k' => answer_types(payload).print(),
-        b'x' => answer_extension(payload).print(),
-        b'n' => answer_form(payload).print(),
-        b'g' => answer_name(letter, payload).print(),
-        b'c' => answer_name(letter, payload).print(),
-        b'a' => answer_name(letter, payload).print(),
+        b'u' => answer_uint(payload),
+        b'd' => answer_datatype(payload),
+        b'v' => answer_version(payload),
+        b'm' => answer_datetime(payload),
+        b'k' => answer_types(payload),
+        b'x' => answer_extension(payload),
+        b'n' => answer_form(payload),
+        b'g' => answer_name(letter, payload),
+        b'c' => answer_name(letter, payload),
+        b'a' => answer_name(letter, payload),
         _ => stop(),
     }
 }

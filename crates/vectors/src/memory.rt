@@ -1,6 +1,6 @@
 // What lent memory holds beforehand, and storing in a room.
 use crate::numbers::at;
-use tokens::peek;
+use json_blocks::peek;
 
 // 200 and up, modulo 251.
 pub(crate) fn fill(v: &mut [u64]) {

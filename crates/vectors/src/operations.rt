@@ -1,6 +1,4 @@
 // `t`: an operation on a table. The answer is one line of its numbers and the checksum of the lent output.
-use crate::line::Line;
-use crate::line::stop;
 use crate::memory::fill;
 use crate::memory::fill_bytes;
 use crate::memory::fill_dataset;
@@ -8,16 +6,23 @@ use crate::numbers::at;
 use crate::parts::front;
 use crate::parts::front_bytes;
 use crate::parts::past;
+use crate::print;
+use crate::print::flag;
+use crate::print::one;
+use crate::print::stop;
+use crate::print::three;
+use crate::print::two;
+use crate::print::word;
 use crate::sum::EMPTY;
 use crate::sum::add_numbers;
 use crate::sum::sum_bytes;
 use crate::table_cases::summary;
-use cutting::copy;
-use cutting::cut;
-use cutting::pieces;
 use table::Summary;
 use table::locate;
 use table::well_formed;
+use table_cuts::cut;
+use table_pieces::copy;
+use table_pieces::pieces;
 
 // A table's summary and what is asked of it.
 pub struct Case {
@@ -57,22 +62,12 @@ fn read_case(head: &[u64]) -> Case {
 
 fn run_well_formed(c: Case, caps: &[u64], notes: &[u64]) -> bool {
     let good = well_formed(c.t, caps, notes);
-    Line::new().word(b"t").flag(good).number(EMPTY).print()
+    two(b"t", flag(good), EMPTY)
 }
 
 fn run_locate(c: Case, caps: &[u64], notes: &[u64]) -> bool {
     let r = locate(c.t, caps, notes, c.a);
-    print_two(r.refusal, r.byte, EMPTY)
-}
-
-// An answer of two numbers and the checksum of lent output.
-fn print_two(refusal: u64, x: u64, h: u64) -> bool {
-    Line::new()
-        .word(b"t")
-        .number(refusal)
-        .number(x)
-        .number(h)
-        .print()
+    three(b"t", r.refusal, r.byte, EMPTY)
 }
 
 fn run_pieces(c: Case, caps: &[u64], notes: &[u64], size: u64) -> bool {
@@ -83,7 +78,7 @@ fn run_pieces(c: Case, caps: &[u64], notes: &[u64], size: u64) -> bool {
 fn pieces_to(c: Case, caps: &[u64], notes: &[u64], out: &mut [u64]) -> bool {
     fill(out);
     let r = pieces(c.t, caps, notes, c.a, c.b, out);
-    print_two(r.refusal, r.count, add_numbers(EMPTY, out))
+    three(b"t", r.refusal, r.count, add_numbers(EMPTY, out))
 }
 
 fn run_cut(c: Case, caps: &[u64], notes: &[u64], capsize: u64, notesize: u64) -> bool {
@@ -107,7 +102,9 @@ fn cut_to(c: Case, caps: &[u64], notes: &[u64], capto: &mut [u64], noteto: &mut 
 
 // An answer of a summary and the checksum of lent output.
 fn print_summary(t: Summary, h: u64) -> bool {
-    Line::new().word(b"t").summary(t).number(h).print()
+    word(b"t");
+    print::summary(t);
+    one(b"", h)
 }
 
 fn run_copy(c: Case, caps: &[u64], notes: &[u64], length: u64, size: u64) -> bool {
@@ -126,5 +123,5 @@ fn copy_to(c: Case, caps: &[u64], notes: &[u64], bytes: &mut [u8], out: &mut [u8
     fill_dataset(bytes);
     fill_bytes(out);
     let r = copy(c.t, caps, notes, bytes, c.a, c.b, out);
-    print_two(r.refusal, r.count, sum_bytes(out))
+    three(b"t", r.refusal, r.count, sum_bytes(out))
 }

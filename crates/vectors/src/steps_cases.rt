@@ -1,5 +1,4 @@
 // `z`: cuts and copies one after the other. The current rows and dataset are at the front of rooms that hold any of them.
-use crate::line::Line;
 use crate::memory::fill_dataset;
 use crate::memory::put;
 use crate::memory::store;
@@ -11,13 +10,17 @@ use crate::parts::first_rows;
 use crate::parts::front;
 use crate::parts::front_bytes;
 use crate::parts::past;
+use crate::print;
+use crate::print::numbers;
+use crate::print::three;
+use crate::print::word;
 use crate::sum::EMPTY;
 use crate::sum::add_numbers;
 use crate::sum::sum_bytes;
 use crate::table_cases::summary;
-use cutting::copy;
-use cutting::cut;
 use table::Summary;
+use table_cuts::cut;
+use table_pieces::copy;
 
 // The most numbers of rows of each kind.
 const NUMBERS: usize = 1024;
@@ -104,64 +107,55 @@ fn take_step(
 ) -> Stepped {
     let mut capto = [0u64; NUMBERS];
     let mut noteto = [0u64; NUMBERS];
-    let mut out = [0u8; BYTES];
-    let r = try_step(
-        t,
-        s,
-        caps,
-        notes,
-        first_bytes(bytes, t.size),
-        &mut capto,
-        &mut noteto,
-        &mut out,
-    );
-    if r.refusal == 0 {
-        store(&capto, caps);
-        store(&noteto, notes);
-        store_bytes(&out, bytes);
-    }
-    r
-}
-
-// A step into the fronts of rooms.
-fn try_step(
-    t: Summary,
-    s: Step,
-    caps: &[u64],
-    notes: &[u64],
-    bytes: &[u8],
-    capto: &mut [u64],
-    noteto: &mut [u64],
-    out: &mut [u8],
-) -> Stepped {
     let r = cut(
         t,
         caps,
         notes,
         s.a,
         s.b,
-        front(capto, s.capsize),
-        front(noteto, s.notesize),
+        front(&mut capto, s.capsize),
+        front(&mut noteto, s.notesize),
     );
-    let w = copy(t, caps, notes, bytes, s.a, s.b, front_bytes(out, s.size));
-    left_by(t, r, w.refusal)
+    let n = copy_after(r.refusal, t, s, caps, notes, bytes);
+    if n == 0 {
+        store(&capto, caps);
+        store(&noteto, notes);
+        return Stepped { t: r, refusal: 0 };
+    }
+    Stepped { t: t, refusal: n }
 }
 
-// What is left by a step with the cut r and a copy's refusal.
-fn left_by(t: Summary, r: Summary, refusal: u64) -> Stepped {
-    if r.refusal != 0 {
-        return Stepped {
-            t: t,
-            refusal: r.refusal,
-        };
-    }
+// The refusal of a cut, or of the copy after it.
+fn copy_after(
+    refusal: u64,
+    t: Summary,
+    s: Step,
+    caps: &[u64],
+    notes: &[u64],
+    bytes: &mut [u8],
+) -> u64 {
     if refusal != 0 {
-        return Stepped {
-            t: t,
-            refusal: refusal,
-        };
+        return refusal;
     }
-    Stepped { t: r, refusal: 0 }
+    copy_over(t, s, caps, notes, bytes)
+}
+
+// An accepted copy is stored over the dataset.
+fn copy_over(t: Summary, s: Step, caps: &[u64], notes: &[u64], bytes: &mut [u8]) -> u64 {
+    let mut out = [0u8; BYTES];
+    let w = copy(
+        t,
+        caps,
+        notes,
+        first_bytes(bytes, t.size),
+        s.a,
+        s.b,
+        front_bytes(&mut out, s.size),
+    );
+    if w.refusal == 0 {
+        store_bytes(&out, bytes);
+    }
+    w.refusal
 }
 
 // The refusals, the summary, and the checksums of the counted rows and of the dataset.
@@ -169,6 +163,12 @@ fn print_end(t: Summary, caps: &[u64], notes: &[u64], bytes: &[u8], refusals: &[
     let g = add_numbers(EMPTY, first_rows(caps, t.captures));
     let h = add_numbers(EMPTY, first_rows(notes, t.annotations));
     let k = sum_bytes(first_bytes(bytes, t.size));
-    let l = Line::new().word(b"z").numbers(refusals).summary(t);
-    l.number(g).number(h).number(k).print()
+    print_steps(refusals, t);
+    three(b"", g, h, k)
+}
+
+fn print_steps(refusals: &[u64], t: Summary) {
+    word(b"z");
+    numbers(refusals);
+    print::summary(t);
 }

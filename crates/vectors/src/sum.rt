@@ -1,10 +1,17 @@
-use decode::Stream;
-use decode::next_byte;
+use crate::print::two;
+use json_strings::Position;
+use json_strings::Stream;
+use json_strings::next_byte;
 
 // How many things were counted, and the checksum of their numbers.
 pub struct Sum {
     pub count: u64,
     pub hash: u64,
+}
+
+// A line of a word, the count and the checksum.
+pub(crate) fn print_sum(w: &[u8], m: Sum) -> bool {
+    two(w, m.count, m.hash)
 }
 
 // The checksum of no numbers.
@@ -44,15 +51,14 @@ pub(crate) fn sum_bytes(v: &[u8]) -> u64 {
 // No byte.
 pub const NONE: u64 = 256;
 
-// The decoded bytes from byte k of the unit at a place on, before the byte end. They are fewer than any count can hold.
-pub(crate) fn sum_decoded(s: &[u8], at: usize, k: usize, end: u64) -> Sum {
+// The decoded bytes from a position on, before the byte end. They are fewer than any count can hold.
+pub(crate) fn sum_decoded(s: &[u8], from: Position, end: u64) -> Sum {
     let mut n = 0u64;
     let mut h = EMPTY;
-    let mut i = at;
-    let mut l = k;
+    let mut p = from;
     loop {
-        let r = next_byte(s, i, l);
-        let Stream::Next(b, p, q) = r else {
+        let r = next_byte(s, p);
+        let Stream::Next(b, q) = r else {
             return Sum { count: n, hash: h };
         };
         if b as u64 == end {
@@ -60,7 +66,6 @@ pub(crate) fn sum_decoded(s: &[u8], at: usize, k: usize, end: u64) -> Sum {
         }
         h = mix_byte(h, b);
         n = std::num::wrapping_add_u64(n, 1);
-        i = p;
-        l = q;
+        p = q;
     }
 }

@@ -7,6 +7,7 @@ use crate::operations::run_operation;
 use crate::parts::first;
 use crate::parts::past;
 use crate::steps_cases::run_steps;
+use table::Place;
 use table::Summary;
 
 // The numbers of the longest case: 13, two counts and two times 4,096.
@@ -80,7 +81,9 @@ pub(crate) fn summary(v: &[u64]) -> Summary {
         size: at(v, 7),
         captures: at(v, 8),
         annotations: at(v, 9),
-        rate: at(v, 10),
-        ratelen: at(v, 11),
+        rate: Place {
+            at: at(v, 10),
+            len: at(v, 11),
+        },
     }
 }

@@ -1,5 +1,5 @@
 use mathlib.Core.Path.{sym, ap, _∙_}
-use Rattle.json.specs.Judged.{refusalOf}
+use Rattle.json_judge.specs.Judged.{refusalOf}
 use borrow.Author.Needs.{needs}
 use Rattle.export.proofs.json_judge.Statement.{statement}
 use Rattle.export.proofs.json_judge.Tie as tie

@@ -3,7 +3,7 @@ use native.Mathlib.Omega.{arith}
 use Prim.Native.Nat.{_-_}
 use mathlib.Core.Path.{sym, _∙_}
 use Rattle.first_line.proofs.Laws.{Reading, read-begin, read-many, read-over, read-on, read-none, read-other, read-feed}
-use Rattle.tokens.proofs.TextLaws.{within-is}
+use Rattle.json_blocks.proofs.ByteLaws.{within-is}
 use Rattle.first_line.proofs.first_line.Statement.{statement}
 use Rattle.first_line.proofs.first_line.Tie as tie
 

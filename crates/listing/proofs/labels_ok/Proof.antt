@@ -2,7 +2,7 @@ use borrow.Author.Needs.{needs}
 use Prim.Native.Nat.{_-_}
 use mathlib.Core.Path.{_≡_, refl}
 use Rattle.listing.proofs.ListingLaws.{labels-end, labels-on, labels-bad}
-use Rattle.labels.specs.Label.{labelsOk}
+use Rattle.listing_labels.specs.Label.{labelsOk}
 use Rattle.table.specs.Rows.{annotationAt, rest}
 use Rattle.listing.proofs.labels_ok.Statement.{statement}
 use Rattle.listing.proofs.labels_ok.Tie as tie

@@ -1,4 +1,4 @@
-use Rattle.listing.proofs.ListingLaws.{brief-of, answer-table, memory-table, answer-label, memory-label, answer-room, memory-room, room-of, answer-all, memory-all}
+use Rattle.listing.proofs.ListingLaws.{answer-table, memory-table, answer-label, memory-label, answer-room, memory-room, room-of, answer-all, memory-all}
 use borrow.Author.Needs.{needs}
 use Rattle.listing.proofs.listing.Statement.{statement}
 use Rattle.listing.proofs.listing.Tie as tie
@@ -10,7 +10,7 @@ labels-ok-requires : tie.Need-labels-ok-requires
 labels-ok-requires c κs = search needs
 
 listing-left-requires : tie.Need-listing-left-requires
-listing-left-requires c κs = search brief-of
+listing-left-requires c κs = search needs
 
 enum-known-g : tie.Need-enum-known-g
 enum-known-g c = search needs

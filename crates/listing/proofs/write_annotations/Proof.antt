@@ -1,7 +1,7 @@
 use borrow.Author.Needs.{needs}
 use native.Mathlib.Omega.{arith}
 use Prim.Native.Nat.{_-_}
-use Rattle.listing.proofs.Writing.{Writes, writes-none, writes-end, writes-long, next-from, next-room, next-sum, writes-next, whole-part}
+use Rattle.listing_text.proofs.Writing.{Writes, writes-none, writes-end, writes-long, next-from, next-room, next-sum, writes-next, whole-part}
 use Rattle.listing.proofs.RowLines.{write-more, write-none}
 use Rattle.listing.specs.Lines.{annotationLine}
 use Rattle.table.specs.Rows.{annotationAt, rest, flat}

@@ -4,7 +4,7 @@ use lib.ListN.{length, getD, drop}
 use Prim.Native.Nat.{ℕ, _≤_, _<_, _-_, _+_, _*_}
 use mathlib.Core.Path.{_≡_, refl, sym, ap, _∙_}
 use Rattle.table.specs.Rows.{captureAt, annotationAt, rest, captures, annotations}
-use Rattle.table.specs.Table.{annotationsOk}
+use Rattle.table.specs.Judge.{annotationsOk}
 use Rattle.table.proofs.TableLaws.{note-bad, note-on, note-done}
 use Rattle.table.proofs.annotations_ok.Statement.{statement}
 use Rattle.table.proofs.annotations_ok.Tie as tie

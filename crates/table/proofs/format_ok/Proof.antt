@@ -8,7 +8,7 @@ use Rattle.table.proofs.format_ok.Statement.{statement}
 use Rattle.table.proofs.format_ok.Tie as tie
 use Rattle.table.proofs.format_ok.Reads as reads
 use Rattle.table.proofs.format_ok.Lts as lts
-use Rattle.datatypes.proofs.sample_bytes.Reads as sample-bytes-reads
+use Rattle.sigmf_datatypes.proofs.sample_bytes.Reads as sample-bytes-reads
 
 sample-bytes-requires : tie.Need-sample-bytes-requires
 sample-bytes-requires c κs = search needs

@@ -9,13 +9,16 @@ use Rattle.table.proofs.numbers_ok.Tie as tie
 use Rattle.table.proofs.numbers_ok.Reads as reads
 use Rattle.table.proofs.numbers_ok.Lts as lts
 use Rattle.table.proofs.format_ok.Reads as format-ok-reads
-use Rattle.table.proofs.text_ok.Reads as text-ok-reads
+use Rattle.table.proofs.ends_within.Reads as ends-within-reads
 
 returns : tie.Need-returns
 returns c = search num-said
 
 format-ok-requires : tie.Need-format-ok-requires
 format-ok-requires c κs = search needs
+
+new-requires : tie.Need-new-requires
+new-requires c κs = search needs
 
 returns-2 : tie.Need-returns-2
 returns-2 c = search num-size
@@ -26,8 +29,8 @@ sub-if4 c = search needs
 returns-3 : tie.Need-returns-3
 returns-3 c = search num-ends
 
-text-ok-requires : tie.Need-text-ok-requires
-text-ok-requires c κs = search needs
+ends-within-requires : tie.Need-ends-within-requires
+ends-within-requires c κs = search needs
 
 returns-4 : tie.Need-returns-4
 returns-4 c = search num-rate
@@ -41,9 +44,10 @@ numbers-ok-spec =
     (tie.spec
     returns
     format-ok-requires
+    new-requires
     returns-2
     sub-if4
     returns-3
-    text-ok-requires
+    ends-within-requires
     returns-4
     returns-5)

@@ -8,13 +8,13 @@ use Rattle.table.proofs.texts_ok.Statement.{statement}
 use Rattle.table.proofs.texts_ok.Tie as tie
 use Rattle.table.proofs.texts_ok.Reads as reads
 use Rattle.table.proofs.texts_ok.Lts as lts
-use Rattle.table.proofs.text_ok.Reads as text-ok-reads
+use Rattle.table.proofs.ends_within.Reads as ends-within-reads
 
-text-ok-requires : tie.Need-text-ok-requires
-text-ok-requires c κs = search needs
+ends-within-requires : tie.Need-ends-within-requires
+ends-within-requires c κs = search needs
 
 returns : tie.Need-returns
 returns c = search texts-are
 
 pub texts-ok-spec : {M : Type 1} → statement M
-texts-ok-spec = tie.close (tie.spec text-ok-requires returns)
+texts-ok-spec = tie.close (tie.spec ends-within-requires returns)

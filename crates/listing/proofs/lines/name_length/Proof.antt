@@ -1,5 +1,5 @@
 use native.Mathlib.Omega.{arith}
-use Rattle.datatypes.proofs.Laws.{name-most}
+use Rattle.sigmf_datatypes.proofs.Laws.{name-most}
 use borrow.Author.Needs.{needs}
 use Rattle.listing.proofs.lines.name_length.Statement.{statement}
 use Rattle.listing.proofs.lines.name_length.Tie as tie

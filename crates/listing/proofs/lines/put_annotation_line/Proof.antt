@@ -1,157 +1,70 @@
 use native.Mathlib.Omega.{arith}
-use Rattle.listing.proofs.Writing.{writes-end, writes-long, byte-inside, byte-sum, writes-byte, first-room, writes-first, next-from, next-room, next-sum, writes-next}
+use Rattle.listing_text.proofs.Writing.{writes-end, first-room, writes-first, next-from, next-room, next-sum, writes-next}
 use Rattle.listing.proofs.LineLaws.{annotation-parts}
 use borrow.Author.Needs.{needs}
 use Rattle.listing.proofs.lines.put_annotation_line.Statement.{statement}
 use Rattle.listing.proofs.lines.put_annotation_line.Tie as tie
 
-slice-aggregate-put-field : tie.Need-slice-aggregate-put-field
-slice-aggregate-put-field c = search needs
+slice-aggregate-put-two : tie.Need-slice-aggregate-put-two
+slice-aggregate-put-two c = search needs
 
-put-field-requires : tie.Need-put-field-requires
-put-field-requires c κs = first-room ((c .before .before .before .before .args .out) .now) (annotation-parts ((c .before .before .before .before .args .s) .now) (c .before .before .before .before .args .x)) (c .before .before .before .before .pre)
+slice-aggregate-put-two-2 : tie.Need-slice-aggregate-put-two-2
+slice-aggregate-put-two-2 c = search needs
 
-sub-put-field : tie.Need-sub-put-field
-sub-put-field c =
-    let entry = c .before .before .before .before .before .before .before in
-    let S1 = writes-first (entry .args .out .now) (annotation-parts (entry .args .s .now) (entry .args .x)) (entry .pre) (c .before .before .put-field .ensures) in
+put-two-requires : tie.Need-put-two-requires
+put-two-requires c κs =
+    let entry = c .before .before .before .before .before in
+    first-room (entry .args .out .now) (annotation-parts (entry .args .s .now) (entry .args .x)) (entry .pre)
+
+sub-put-last : tie.Need-sub-put-last
+sub-put-last c =
+    let entry = c .before .before .before .before .before .before .before .before in
+    let S1 = writes-first (entry .args .out .now) (annotation-parts (entry .args .s .now) (entry .args .x)) (entry .pre) (c .before .before .put-two .ensures) in
     next-from S1
 
-part-put-field-start : tie.Need-part-put-field-start
-part-put-field-start c =
-    let entry = c .before .before .before .before .before .before .before in
-    let S1 = writes-first (entry .args .out .now) (annotation-parts (entry .args .s .now) (entry .args .x)) (entry .pre) (c .before .before .put-field .ensures) in
+part-put-last-start : tie.Need-part-put-last-start
+part-put-last-start c =
+    let entry = c .before .before .before .before .before .before .before .before in
+    let S1 = writes-first (entry .args .out .now) (annotation-parts (entry .args .s .now) (entry .args .x)) (entry .pre) (c .before .before .put-two .ensures) in
     next-from S1
 
-part-put-field-end : tie.Need-part-put-field-end
-part-put-field-end c = search needs
+part-put-last-end : tie.Need-part-put-last-end
+part-put-last-end c = search needs
 
-slice-aggregate-put-field-2 : tie.Need-slice-aggregate-put-field-2
-slice-aggregate-put-field-2 c = search needs
-
-put-field-requires-2 : tie.Need-put-field-requires-2
-put-field-requires-2 c κs =
+put-last-requires : tie.Need-put-last-requires
+put-last-requires c κs =
     let entry = c .before .before .before .before .before .before .before .before .before in
-    let S1 = writes-first (entry .args .out .now) (annotation-parts (entry .args .s .now) (entry .args .x)) (entry .pre) (c .before .before .before .before .put-field .ensures) in
+    let S1 = writes-first (entry .args .out .now) (annotation-parts (entry .args .s .now) (entry .args .x)) (entry .pre) (c .before .before .before .put-two .ensures) in
     next-room S1
-
-add-b : tie.Need-add-b
-add-b c =
-    let entry = c .before .before .before .before .before .before .before .before .before .before .before .before in
-    let S1 = writes-first (entry .args .out .now) (annotation-parts (entry .args .s .now) (entry .args .x)) (entry .pre) (c .before .before .before .before .before .before .before .put-field .ensures) in
-    let g = (entry .good) in
-    omega (arith, next-sum S1 (c .before .before .put-field2 .ensures))
-
-slice-write-out : tie.Need-slice-write-out
-slice-write-out c =
-    let entry = c .before .before .before .before .before .before .before .before .before .before .before .before in
-    let S1 = writes-first (entry .args .out .now) (annotation-parts (entry .args .s .now) (entry .args .x)) (entry .pre) (c .before .before .before .before .before .before .before .put-field .ensures) in
-    let S2 = writes-next S1 (c .before .before .put-field2 .ensures) in
-    byte-inside S2
-
-add-c : tie.Need-add-c
-add-c c =
-    let entry = c .before .before .before .before .before .before .before .before .before .before .before .before in
-    let S1 = writes-first (entry .args .out .now) (annotation-parts (entry .args .s .now) (entry .args .x)) (entry .pre) (c .before .before .before .before .before .before .before .put-field .ensures) in
-    let S2 = writes-next S1 (c .before .before .put-field2 .ensures) in
-    let g = (entry .good) in
-    omega (arith, byte-sum S2)
-
-sub-put-text : tie.Need-sub-put-text
-sub-put-text c =
-    let entry = c .before .before .before .before .before .before .before .before .before .before .before .before in
-    let S1 = writes-first (entry .args .out .now) (annotation-parts (entry .args .s .now) (entry .args .x)) (entry .pre) (c .before .before .before .before .before .before .before .put-field .ensures) in
-    let S2 = writes-next S1 (c .before .before .put-field2 .ensures) in
-    let S3 = writes-byte S2 in
-    next-from S3
-
-part-put-text-start : tie.Need-part-put-text-start
-part-put-text-start c =
-    let entry = c .before .before .before .before .before .before .before .before .before .before .before .before in
-    let S1 = writes-first (entry .args .out .now) (annotation-parts (entry .args .s .now) (entry .args .x)) (entry .pre) (c .before .before .before .before .before .before .before .put-field .ensures) in
-    let S2 = writes-next S1 (c .before .before .put-field2 .ensures) in
-    let S3 = writes-byte S2 in
-    next-from S3
-
-part-put-text-end : tie.Need-part-put-text-end
-part-put-text-end c = search needs
-
-put-text-requires : tie.Need-put-text-requires
-put-text-requires c κs =
-    let entry = c .before .before .before .before .before .before .before .before .before .before .before .before .before in
-    let S1 = writes-first (entry .args .out .now) (annotation-parts (entry .args .s .now) (entry .args .x)) (entry .pre) (c .before .before .before .before .before .before .before .before .put-field .ensures) in
-    let S2 = writes-next S1 (c .before .before .before .put-field2 .ensures) in
-    let S3 = writes-byte S2 in
-    next-room S3
-
-add-d : tie.Need-add-d
-add-d c =
-    let entry = c .before .before .before .before .before .before .before .before .before .before .before .before .before .before .before .before in
-    let S1 = writes-first (entry .args .out .now) (annotation-parts (entry .args .s .now) (entry .args .x)) (entry .pre) (c .before .before .before .before .before .before .before .before .before .before .before .put-field .ensures) in
-    let S2 = writes-next S1 (c .before .before .before .before .before .before .put-field2 .ensures) in
-    let S3 = writes-byte S2 in
-    let g = (entry .good) in
-    omega (arith, next-sum S3 (c .before .before .put-text .ensures))
-
-slice-write-out-2 : tie.Need-slice-write-out-2
-slice-write-out-2 c =
-    let entry = c .before .before .before .before .before .before .before .before .before .before .before .before .before .before .before .before in
-    let S1 = writes-first (entry .args .out .now) (annotation-parts (entry .args .s .now) (entry .args .x)) (entry .pre) (c .before .before .before .before .before .before .before .before .before .before .before .put-field .ensures) in
-    let S2 = writes-next S1 (c .before .before .before .before .before .before .put-field2 .ensures) in
-    let S3 = writes-byte S2 in
-    let S4 = writes-next S3 (c .before .before .put-text .ensures) in
-    byte-inside S4
 
 add-result : tie.Need-add-result
 add-result c =
-    let entry = c .before .before .before .before .before .before .before .before .before .before .before .before .before .before .before .before in
-    let S1 = writes-first (entry .args .out .now) (annotation-parts (entry .args .s .now) (entry .args .x)) (entry .pre) (c .before .before .before .before .before .before .before .before .before .before .before .put-field .ensures) in
-    let S2 = writes-next S1 (c .before .before .before .before .before .before .put-field2 .ensures) in
-    let S3 = writes-byte S2 in
-    let S4 = writes-next S3 (c .before .before .put-text .ensures) in
-    let g = (entry .good) in
-    omega (arith, byte-sum S4)
+    let entry = c .before .before .before .before .before .before .before .before .before .before .before .before in
+    let S1 = writes-first (entry .args .out .now) (annotation-parts (entry .args .s .now) (entry .args .x)) (entry .pre) (c .before .before .before .before .before .before .put-two .ensures) in
+    let g = entry .good in
+    omega (arith, next-sum S1 (c .before .before .put-last .ensures))
 
 same-length : tie.Need-same-length
-same-length c =
-    let entry = c .before .before .before .before .before .before .before .before .before .before .before .before .before .before .before .before in
-    let S1 = writes-first (entry .args .out .now) (annotation-parts (entry .args .s .now) (entry .args .x)) (entry .pre) (c .before .before .before .before .before .before .before .before .before .before .before .put-field .ensures) in
-    let S2 = writes-next S1 (c .before .before .before .before .before .before .put-field2 .ensures) in
-    let S3 = writes-byte S2 in
-    let S4 = writes-next S3 (c .before .before .put-text .ensures) in
-    let S5 = writes-byte S4 in
-    writes-long S5
+same-length c = search needs
 
 returns : tie.Need-returns
 returns c =
-    let entry = c .before .before .before .before .before .before .before .before .before .before .before .before .before .before .before .before in
-    let S1 = writes-first (entry .args .out .now) (annotation-parts (entry .args .s .now) (entry .args .x)) (entry .pre) (c .before .before .before .before .before .before .before .before .before .before .before .put-field .ensures) in
-    let S2 = writes-next S1 (c .before .before .before .before .before .before .put-field2 .ensures) in
-    let S3 = writes-byte S2 in
-    let S4 = writes-next S3 (c .before .before .put-text .ensures) in
-    let S5 = writes-byte S4 in
-    writes-end S5
+    let entry = c .before .before .before .before .before .before .before .before .before .before .before .before in
+    let S1 = writes-first (entry .args .out .now) (annotation-parts (entry .args .s .now) (entry .args .x)) (entry .pre) (c .before .before .before .before .before .before .put-two .ensures) in
+    let S2 = writes-next S1 (c .before .before .put-last .ensures) in
+    writes-end S2
 
 pub put-annotation-line-spec : {M : Type 1} → statement M
 put-annotation-line-spec =
     tie.close
     (tie.spec
-    slice-aggregate-put-field
-    put-field-requires
-    sub-put-field
-    part-put-field-start
-    part-put-field-end
-    slice-aggregate-put-field-2
-    put-field-requires-2
-    add-b
-    slice-write-out
-    add-c
-    sub-put-text
-    part-put-text-start
-    part-put-text-end
-    put-text-requires
-    add-d
-    slice-write-out-2
+    slice-aggregate-put-two
+    slice-aggregate-put-two-2
+    put-two-requires
+    sub-put-last
+    part-put-last-start
+    part-put-last-end
+    put-last-requires
     add-result
     same-length
     returns)

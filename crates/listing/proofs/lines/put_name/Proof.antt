@@ -1,12 +1,12 @@
 use borrow.Author.Needs.{needs}
 use Prim.Native.Nat.{_-_}
-use Rattle.listing.proofs.Writing.{Copied, copy-begin, copy-inside, copy-on, copy-long, copy-all, copy-count}
-use Rattle.datatypes.specs.Datatypes.{nameOf}
+use Rattle.listing_text.proofs.Writing.{Copied, copy-begin, copy-inside, copy-on, copy-long, copy-all, copy-count}
+use Rattle.sigmf_datatypes.specs.Datatypes.{datatypeName}
 use Rattle.listing.proofs.lines.put_name.Statement.{statement}
 use Rattle.listing.proofs.lines.put_name.Tie as tie
 
 abbrev Inv-loop : tie.InvT-loop
-Inv-loop out₀ code n i₀ out i = Copied (nameOf code) out₀ out n i
+Inv-loop out₀ code n i₀ out i = Copied (datatypeName code) out₀ out n i
 
 abbrev μ-loop : tie.MeasureT-loop
 μ-loop out₀ code n i₀ out i = n - i

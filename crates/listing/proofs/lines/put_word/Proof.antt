@@ -1,7 +1,7 @@
 use borrow.Author.Needs.{needs}
 use Prim.Native.Nat.{_-_}
 use mathlib.Core.Path.{refl}
-use Rattle.listing.proofs.Writing.{Copied, copy-begin, copy-inside, copy-on, copy-long, copy-all}
+use Rattle.listing_text.proofs.Writing.{Copied, copy-begin, copy-inside, copy-on, copy-long, copy-all}
 use Rattle.listing.proofs.lines.put_word.Statement.{statement}
 use Rattle.listing.proofs.lines.put_word.Tie as tie
 

@@ -29,14 +29,11 @@ compare-requires c κs = search needs
 returns : tie.Need-returns
 returns c = search needs
 
-new-requires : tie.Need-new-requires
-new-requires c κs = search needs
+slice-aggregate-line : tie.Need-slice-aggregate-line
+slice-aggregate-line c = search needs
 
-slice-aggregate-word : tie.Need-slice-aggregate-word
-slice-aggregate-word c = search needs
-
-word-requires : tie.Need-word-requires
-word-requires c κs = search needs
+line-requires : tie.Need-line-requires
+line-requires c κs = search needs
 
 returns-2 : tie.Need-returns-2
 returns-2 c = search needs
@@ -53,7 +50,6 @@ compare-parts-spec =
     part-compare-end
     compare-requires
     returns
-    new-requires
-    slice-aggregate-word
-    word-requires
+    slice-aggregate-line
+    line-requires
     returns-2)

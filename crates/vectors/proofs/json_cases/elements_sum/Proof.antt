@@ -3,8 +3,8 @@ use native.Mathlib.Omega.{arith}
 use lib.ListN.{length}
 use Prim.Native.Nat.{_≤_, _-_}
 use mathlib.Core.Path.{sym, ap, _∙_}
-use Rattle.members.specs.Members.{elementFound}
-use Rattle.members.proofs.StepLaws.{element-steps}
+use Rattle.json_walk.specs.Members.{elementFound}
+use Rattle.json_walk.proofs.StepLaws.{element-steps}
 use Rattle.vectors.proofs.json_cases.elements_sum.Statement.{statement}
 use Rattle.vectors.proofs.json_cases.elements_sum.Tie as tie
 

@@ -3,8 +3,8 @@ use native.Mathlib.Omega.{arith}
 use lib.ListN.{length}
 use Prim.Native.Nat.{_≤_, _-_}
 use mathlib.Core.Path.{sym, ap, _∙_}
-use Rattle.members.specs.Members.{memberFound}
-use Rattle.members.proofs.StepLaws.{member-steps}
+use Rattle.json_walk.specs.Members.{memberFound}
+use Rattle.json_walk.proofs.StepLaws.{member-steps}
 use Rattle.vectors.proofs.json_cases.members_sum.Statement.{statement}
 use Rattle.vectors.proofs.json_cases.members_sum.Tie as tie
 

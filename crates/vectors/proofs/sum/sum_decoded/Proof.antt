@@ -1,15 +1,15 @@
 use borrow.Author.Needs.{needs}
 use lib.ListN.{length}
-use Rattle.decode.specs.Decode.{stream}
-use Rattle.decode.proofs.DecodeLaws.{shorter, streamed-next}
+use Rattle.json_strings.specs.Stream.{stream}
+use Rattle.json_strings.proofs.DecodeLaws.{shorter, streamed-next}
 use Rattle.vectors.proofs.sum.sum_decoded.Statement.{statement}
 use Rattle.vectors.proofs.sum.sum_decoded.Tie as tie
 
 abbrev Inv-loop : tie.InvT-loop
-Inv-loop s at k end n₀ h₀ i₀ l₀ n h i l = Unit {0}
+Inv-loop s end n₀ h₀ p₀ n h p = Unit {0}
 
 abbrev μ-loop : tie.MeasureT-loop
-μ-loop s at k end n₀ h₀ i₀ l₀ n h i l = length (stream s i l)
+μ-loop s end n₀ h₀ p₀ n h p = length (stream s p)
 
 loop-holds : tie.Need-loop-holds Inv-loop μ-loop
 loop-holds c = search needs
@@ -39,7 +39,7 @@ wrapping-add-u64-requires : tie.Need-wrapping-add-u64-requires Inv-loop μ-loop
 wrapping-add-u64-requires c κs = search needs
 
 loop-less : tie.Need-loop-less Inv-loop μ-loop
-loop-less c = shorter _ _ _ (streamed-next _ _ _ _ (c .before .before .before .before .before .before .next-byte .ensures) _ _ _ (c .before .before .before .before .r .given .1))
+loop-less c = shorter _ _ _ (streamed-next _ _ _ (c .before .before .before .before .before .before .next-byte .ensures) _ _ (c .before .before .before .before .r .given .1))
 
 loop-again : tie.Need-loop-again Inv-loop μ-loop
 loop-again c = search needs

@@ -1,4 +1,0 @@
-pub mod Grammar
-pub mod Reading
-pub mod Skip
-pub mod Stands

@@ -1,0 +1,4 @@
+pub mod TurnLaws
+pub mod ByteLaws
+pub mod BlockLaws
+pub mod GroupLaws

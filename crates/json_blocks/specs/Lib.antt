@@ -1,0 +1,5 @@
+pub mod Turns
+pub mod TextBytes
+pub mod Blocks
+pub mod Lists
+pub mod Group

@@ -1,0 +1,4 @@
+pub mod Grammar
+pub mod ByPlace
+pub mod Skip
+pub mod Stands

@@ -1,0 +1,4 @@
+pub mod MemberNames
+pub mod Judged
+pub mod Stack
+pub mod Pass

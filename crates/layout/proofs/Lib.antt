@@ -1,6 +1,0 @@
-pub mod EntryLaws
-pub mod StageLaws
-pub mod JudgeLaws
-pub mod WriteLaws
-pub mod Theorem
-pub mod Examples

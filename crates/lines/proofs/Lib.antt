@@ -1,4 +1,0 @@
-pub mod LineLaws
-pub mod RecoverLaws
-pub mod Theorem
-pub mod Example

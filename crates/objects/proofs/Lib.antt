@@ -1,6 +1,0 @@
-pub mod NameLaws
-pub mod WalkLaws
-pub mod ValueLaws
-pub mod ObjectLaws
-pub mod ExtensionLaws
-pub mod GlobalLaws

@@ -1,0 +1,2 @@
+pub mod DatetimeLaws
+pub mod DirectLaws

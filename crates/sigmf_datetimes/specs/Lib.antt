@@ -1,0 +1,2 @@
+pub mod Datetimes
+pub mod DatetimeCode

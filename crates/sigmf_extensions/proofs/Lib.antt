@@ -1,0 +1,2 @@
+pub mod ExtensionLaws
+pub mod EntriesLaws

@@ -1,0 +1,5 @@
+pub mod NameLaws
+pub mod WalkLaws
+pub mod ValueLaws
+pub mod ObjectLaws
+pub mod GlobalLaws

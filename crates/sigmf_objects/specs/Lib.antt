@@ -1,0 +1,6 @@
+pub mod Fields
+pub mod Places
+pub mod Global
+pub mod GlobalPlaces
+pub mod Capture
+pub mod Annotation

@@ -1,0 +1,3 @@
+pub mod LookupLaws
+pub mod DatatypeLaws
+pub mod FormLaws

@@ -1,0 +1,4 @@
+pub mod Lookup
+pub mod Texts
+pub mod Form
+pub mod FormCode

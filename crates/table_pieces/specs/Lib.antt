@@ -1,0 +1,4 @@
+pub mod Pieces
+pub mod Run
+pub mod Copy
+pub mod Bytes

@@ -1,4 +1,0 @@
-pub mod Lookup
-pub mod Texts
-pub mod Form
-pub mod Datetimes
