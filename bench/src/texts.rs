@@ -249,7 +249,7 @@ fn short(size: usize) -> String {
     objects(size, |i| format!("\"{i:02x}\":1"))
 }
 
-// One step of the key that crates/decode has for names (text_key). Where that changes, this must.
+// One step of the key that crates/json_names has for names (text_key). Where that changes, this must.
 fn step(key: u64, byte: u8) -> u64 {
     (key * 16777619 + byte as u64) % 4294967296
 }
