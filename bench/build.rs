@@ -1,8 +1,10 @@
-// Links the archive that `rt staticlib export` writes.
+// Links the archives that `rt staticlib export` and `rt staticlib export_writer` write.
 fn main() {
     let here = std::env::var("CARGO_MANIFEST_DIR").unwrap();
     let dir = format!("{here}/../target/staticlib");
-    println!("cargo:rerun-if-changed={dir}/libexport.a");
     println!("cargo:rustc-link-search=native={dir}");
-    println!("cargo:rustc-link-lib=static=export");
+    for name in ["export", "export_writer"] {
+        println!("cargo:rerun-if-changed={dir}/lib{name}.a");
+        println!("cargo:rustc-link-lib=static={name}");
+    }
 }

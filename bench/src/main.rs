@@ -1,12 +1,15 @@
-// Times the judge and the reader against serde_json on texts of each kind and length, the copy against memcpy, and pieces and places
-// by the row, all interleaved, and prints ratios.
+// Times the judge and the reader against serde_json on texts of each kind and length, the copy against memcpy, pieces and places
+// by the row, and the writer against serde_json, all interleaved, and prints ratios.
 mod copies;
 #[path = "../../crates/export/export.rs"]
 #[allow(dead_code)]
 mod export;
+#[path = "../../crates/export_writer/export_writer.rs"]
+mod export_writer;
 mod rows;
 mod texts;
 mod typed;
+mod writes;
 
 use export::{json_judge, recording_read};
 use std::cell::RefCell;
@@ -243,4 +246,5 @@ fn main() {
     print_worst(&cases);
     copies::print_copies(rounds);
     rows::print_rows(rounds);
+    writes::print_writes(rounds);
 }

@@ -40,6 +40,10 @@ pub mod table_cases;
 pub mod table_forged;
 pub mod table_random;
 pub mod words;
+pub mod writer;
+pub mod writing_answers;
+pub mod writing_cases;
+pub mod writing_random;
 
 #[cfg(test)]
 mod tests;

@@ -22,8 +22,9 @@ pub struct Label<'a> {
 }
 
 /// What an annotation row's text place says of its label.
-enum RowLabel<'a> {
+pub enum RowLabel<'a> {
     Absent,
+    /// The raw label, a part of the lent metadata.
     Raw(&'a [u8]),
     /// The place does not fit the metadata.
     Misfit,
@@ -31,7 +32,7 @@ enum RowLabel<'a> {
 
 /// "each present label's place has a `"` byte just before and just after it in
 /// the lent metadata and holds a JSON string body in valid UTF-8"
-fn row_label<'a>(row: &Row, metadata: &'a [u8]) -> RowLabel<'a> {
+pub fn row_label<'a>(row: &Row, metadata: &'a [u8]) -> RowLabel<'a> {
     let (place, length) = (u128::from(row[2]), u128::from(row[3]));
     if (place, length) == (0, 0) {
         return RowLabel::Absent;

@@ -1,5 +1,5 @@
-//! One case about label lookup or the listing: a table, the metadata lent with it
-//! and what is asked.
+//! One case about label lookup, the listing or the metadata written from a table:
+//! the table, the metadata lent with it and what is asked.
 
 use crate::frames::Case;
 use crate::steps::State;
@@ -16,6 +16,8 @@ pub const OUTPUT_MAX: u64 = 65_536;
 pub const LOOKUP: u8 = b'l';
 /// The listing is written.
 pub const LISTING: u8 = b'p';
+/// The metadata of the table is written.
+pub const WRITING: u8 = b'w';
 
 /// A table handed in beside metadata.
 #[derive(Clone, PartialEq, Eq, Debug)]
@@ -56,7 +58,7 @@ impl ListingCase {
     pub fn read(case: &Case) -> Option<ListingCase> {
         let letter = case.letter;
         let mut words = Words(&case.payload);
-        let number = if letter == LISTING { words.at_most(OUTPUT_MAX)? } else { words.one()? };
+        let number = if letter == LOOKUP { words.one()? } else { words.at_most(OUTPUT_MAX)? };
         let summary = summary_of(&words.many(12)?);
         let (captures, annotations) = (words.counted(LENT_MAX)?, words.counted(LENT_MAX)?);
         Some(ListingCase { letter, number, summary, captures, annotations, metadata: words.0.to_vec() })

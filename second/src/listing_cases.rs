@@ -206,7 +206,7 @@ impl List {
 }
 
 /// A table of one annotation with a label's place, W = 1 and no samples.
-fn one_label(place: u64, length: u64) -> State {
+pub fn one_label(place: u64, length: u64) -> State {
     let mut state = open(&meta(G, "", "{$s:0}"), 0);
     (state.annotations[2], state.annotations[3]) = (place, length);
     state

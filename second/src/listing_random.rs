@@ -5,7 +5,7 @@ use crate::listing::listing_text;
 use crate::listing_case::{ListingCase, LISTING, LOOKUP, OUTPUT_MAX};
 use crate::listing_labels::LABELS;
 use crate::part::{random_style, written};
-use crate::recording::Plan;
+use crate::recording::{Plan, Recording};
 use crate::recording_random::{decorated, label, random_plan};
 use crate::rng::Rng;
 use crate::steps::State;
@@ -28,12 +28,19 @@ pub fn random_case(rng: &mut Rng) -> Case {
     asked(letter, &state, &metadata, rng).frame()
 }
 
-fn random_label(rng: &mut Rng) -> Option<String> {
+/// A raw label, hostile once in two times, or none.
+pub fn random_label(rng: &mut Rng) -> Option<String> {
     if rng.once_in(2) { Some(rng.pick(LABELS).to_string()) } else { label(rng) }
 }
 
 /// The table and metadata of a random recording with the labels.
 pub fn labelled(labels: &[Option<String>], rng: &mut Rng) -> (State, Vec<u8>) {
+    let recording = labelled_recording(labels, rng);
+    opened(&recording, rng)
+}
+
+/// A random recording with the labels.
+pub fn labelled_recording(labels: &[Option<String>], rng: &mut Rng) -> Recording {
     let plan = random_plan(rng);
     let starts = starts(labels.len(), plan.offset, plan.samples, rng);
     let mut captures = plan.captures.clone();
@@ -41,7 +48,11 @@ pub fn labelled(labels: &[Option<String>], rng: &mut Rng) -> (State, Vec<u8>) {
     let notes = starts.iter().zip(labels).map(|(&s, l)| (s, rng.once_in(2).then_some(plan.offset + plan.samples - s), l.clone()));
     let annotations = notes.collect();
     let plan = Plan { captures, annotations, ..plan };
-    let recording = if rng.once_in(3) { decorated(&plan, rng) } else { plan.recording() };
+    if rng.once_in(3) { decorated(&plan, rng) } else { plan.recording() }
+}
+
+/// The table and metadata of a recording written in any style.
+pub fn opened(recording: &Recording, rng: &mut Rng) -> (State, Vec<u8>) {
     let style = random_style(rng);
     let text = written(&recording.top, style, rng);
     (open(&text, recording.dataset), text.into_bytes())
@@ -66,7 +77,7 @@ pub fn asked(letter: u8, state: &State, metadata: &[u8], rng: &mut Rng) -> Listi
 }
 
 /// Another place of a label, or other metadata around it.
-fn change_label(state: &mut State, metadata: &mut Vec<u8>, rng: &mut Rng) {
+pub fn change_label(state: &mut State, metadata: &mut Vec<u8>, rng: &mut Rng) {
     let count = state.annotations.len() / 4;
     if count == 0 {
         return;

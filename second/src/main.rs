@@ -2,11 +2,11 @@
 
 use second::frames::{read_frames, write_frames, Case};
 use second::{field_answers, field_cases, json_answers, json_cases, listing, listing_answers, listing_cases};
-use second::{reading_answers, reading_cases, steps_answers, steps_cases, table_answers, table_cases};
+use second::{reading_answers, reading_cases, steps_answers, steps_cases, table_answers, table_cases, writing_answers, writing_cases};
 use std::io::{Read, Write};
 use std::process::ExitCode;
 
-const USAGE: &str = "usage: second KIND-cases SEED COUNT | KIND-answers | program, KIND being json, table, field, reading, listing or steps";
+const USAGE: &str = "usage: second KIND-cases SEED COUNT | KIND-answers | program, KIND being json, table, field, reading, listing, writing or steps";
 
 fn main() -> ExitCode {
     let args: Vec<String> = std::env::args().skip(1).collect();
@@ -22,6 +22,8 @@ fn main() -> ExitCode {
         ["reading-answers"] => write_answers(reading_answers::answer),
         ["listing-cases", seed, count] => write_cases(listing_cases::listing_cases, seed, count),
         ["listing-answers"] => write_answers(listing_answers::answer),
+        ["writing-cases", seed, count] => write_cases(writing_cases::writing_cases, seed, count),
+        ["writing-answers"] => write_answers(writing_answers::answer),
         ["steps-cases", seed, count] => write_cases(steps_cases::steps_cases, seed, count),
         ["steps-answers"] => write_answers(steps_answers::answer),
         ["program"] => input().and_then(|bytes| output(&listing::program(&bytes))),

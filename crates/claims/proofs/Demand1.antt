@@ -7,7 +7,7 @@ use native.Mathlib.Omega.{arith}
 use lib.ListN.{length}
 use lib.Dec.{leb, ltb, eqb}
 use borrow.Author.Tests.{ne-eqb}
-use Rattle.limits.specs.Limits.{nesting}
+use Rattle.limits.specs.Limits.{metadata, nesting}
 use Rattle.refusals.specs.Refusals.{Rule, rule, lowest, ByRules}
 use Rattle.refusals.proofs.RuleLaws.{rising, lowest-by}
 use Rattle.json_grammar.specs.Grammar.{Text}
@@ -30,13 +30,15 @@ use Rattle.listing_labels.specs.Text.{part, stands, textGood}
 use Rattle.listing_labels.specs.Label.{Found, noLabel, labelFound, labelOf, labelAnswer, labelsOk}
 use Rattle.listing_labels.specs.Label.{labelRefused}
 use Rattle.listing.specs.Listing.{listingOf, listingAnswer}
+use Rattle.writer.specs.Metadata.{metadataOf}
+use Rattle.writer.specs.Writer.{rateOk, writable, writerAnswer}
 use Rattle.reader.specs.Reading.{readRules, contents, judgedRecording, readRefusal, readAnswer, capturesRead, annotationsRead}
 use Rattle.claims_accepted.proofs.Accepted.{or-number, read-number}
 use Rattle.claims_derived.specs.Derived.{top}
 use Rattle.claims_derived.specs.Rules.{badNode}
 use Rattle.claims_derived.proofs.Refusal3.{bad-same}
 use Rattle.export_listing.specs.LabelPlace.{labelledAt, labelled}
-use Rattle.claims.specs.Demand1.{AnswerKind, EntryCall, answerNumber, Refuses, RefusesBy, summaries, places, counts, labels, JudgedBy, judging, reading, summing, laying, layRules, locateRules, locating, labelRules, labelling, labellingPlace, piecesRules, piecing, cutRules, cutting, copyRules, copying, listingRules, listing, OfTable, Demand1}
+use Rattle.claims.specs.Demand1.{AnswerKind, EntryCall, answerNumber, Refuses, RefusesBy, summaries, places, counts, labels, JudgedBy, judging, reading, summing, laying, layRules, locateRules, locating, labelRules, labelling, labellingPlace, piecesRules, piecing, cutRules, cutting, copyRules, copying, listingRules, listing, writerRules, writing, OfTable, Demand1}
 
 -- ---- answers by rules
 -- the number is the lowest of the rules, and stands alone unless it is 0
@@ -199,6 +201,19 @@ module _ (t : Table) where
       (λ _. stage counts (λ n. refl) (leb (length (listingOf t s)) (length m)) _ refl _ 20 [] (λ _. accepted counts _ refl)))
       refl (λ h. one-kept (kept _ _ _ h))
 
+  all-three : (a b c : Bool) → not (a && b && c) ≡ not a || not b || not c
+  all-three true b c = either b c
+  all-three false b c = refl
+
+  write : (s m : List ℕ) → RefusesBy (writerRules t s m) (writing t s m)
+  unfolding writerAnswer writable rising
+  write s m =
+      let n = length (metadataOf t s) in
+      refuses (writing t s m) (writerRules t s m)
+      (stage counts (λ n. refl) (well && labelsOk s (annotationsOf t) && rateOk s (t .summary .rate)) _ (all-three well _ _) _ 18 _
+      (λ _. stage counts (λ n. refl) (leb n (length m) && leb n metadata) _ (either (leb n (length m)) (leb n metadata)) _ 20 [] (λ _. accepted counts _ refl)))
+      refl (λ h. one-kept (kept _ _ _ h))
+
   of-table : OfTable t
   of-table = record {
     locate = locate;
@@ -208,6 +223,7 @@ module _ (t : Table) where
     cut = cuts;
     copy = λ d a b m. copy a b d m;
     list = list;
+    write = write;
   }
 
 pub demand-1 : Demand1

@@ -195,7 +195,7 @@ module _ (s : List ℕ) (d : ℕ) (caps notes : List ℕ) (z : readAnswer s d ca
   derived : Text nesting s
   derived = demand-2 s d caps notes .read .number .text (λ e. omega (arith, z, e)) (λ e. omega (arith, z, e))
 
-  labels-stand : labelsOk s (annotations N (T .annotations)) ≡ true
+  pub labels-stand : labelsOk s (annotations N (T .annotations)) ≡ true
   labels-stand =
       rows-good s N (T .annotations - 0) 0
       (λ k h. subst (λ (j : ℕ). labelOk s (annotationAt N j) ≡ true) (sum k) (label-good s (label-at derived k (omega (arith, h)))))

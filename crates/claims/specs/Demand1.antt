@@ -8,7 +8,7 @@ use mathlib.Core.List.{List, [], _∷_, _++_}
 use Prim.Native.Nat.{ℕ, _*_}
 use lib.ListN.{length}
 use lib.Dec.{eqb, leb, ltb}
-use Rattle.limits.specs.Limits.{nesting}
+use Rattle.limits.specs.Limits.{metadata, nesting}
 use Rattle.json_grammar.specs.Grammar.{Text}
 use Rattle.refusals.specs.Refusals.{Rule, rule, lowest, ByRules}
 use Rattle.json_judge.specs.Judged.{judgeRules}
@@ -27,6 +27,8 @@ use Rattle.table_pieces.specs.Copy.{bytesIn, copyAnswer, copyMemory}
 use Rattle.listing_labels.specs.Label.{Found, labelOk, labelsOk, labelAnswer}
 use Rattle.listing_labels.specs.Label.{labelRefused}
 use Rattle.listing.specs.Listing.{listingOf, listingAnswer, listingMemory}
+use Rattle.writer.specs.Metadata.{metadataOf}
+use Rattle.writer.specs.Writer.{rateOk, writerAnswer, writerMemory}
 use Rattle.reader.specs.Reading.{judgedRecording, readAnswer, capturesRead, annotationsRead}
 use Rattle.claims_derived.specs.Derived.{top}
 use Rattle.claims_derived.specs.Rules.{badNode}
@@ -185,7 +187,17 @@ module _ (t : Table) where
   abbrev pub listing : List ℕ → List ℕ → EntryCall Wrote
   listing s m = record { kind = counts; answer = listingAnswer t s (length m); before = m ∷ []; after = listingMemory t s m ∷ [] }
 
--- ---- the entries; those of `export` and `export_listing` answer and write the same
+  -- request P1: "18 as for the listing, and if the sample rate text isn't a JSON number; 20 if the text exceeds the lent room or 61,440 bytes"
+  abbrev pub writerRules : List ℕ → List ℕ → List Rule
+  writerRules s m =
+      rule 18 (malformed || not (labelsOk s (annotationsOf t)) || not (rateOk s (t .summary .rate)))
+      ∷ rule 20 (short (length (metadataOf t s)) m || not (leb (length (metadataOf t s)) metadata))
+      ∷ []
+
+  abbrev pub writing : List ℕ → List ℕ → EntryCall Wrote
+  writing s m = record { kind = counts; answer = writerAnswer t s (length m); before = m ∷ []; after = writerMemory t s m ∷ [] }
+
+-- ---- the entries; those of `export`, `export_listing` and `export_writer` answer and write the same
 pub record OfTable (t : Table) : Type 0 where
   pub locate : (i : ℕ) → RefusesBy (locateRules t i) (locating t i)
   pub label : (s : List ℕ) (n : ℕ) → RefusesBy (labelRules t s n) (labelling t s n)
@@ -194,6 +206,7 @@ pub record OfTable (t : Table) : Type 0 where
   pub cut : (a b : ℕ) (m k : List ℕ) → RefusesBy (cutRules t a b m k) (cutting t a b m k)
   pub copy : (d : List ℕ) (a b : ℕ) (m : List ℕ) → RefusesBy (copyRules t d a b m) (copying t d a b m)
   pub list : (s m : List ℕ) → RefusesBy (listingRules t s m) (listing t s m)
+  pub write : (s m : List ℕ) → RefusesBy (writerRules t s m) (writing t s m)
 
 pub record Demand1 : Type 0 where
   pub judgeText : (s : List ℕ) → JudgedBy s (lowest (judgeRules s))

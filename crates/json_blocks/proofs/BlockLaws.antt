@@ -121,6 +121,10 @@ plain-is b e =
       slash = eqb-false b 0x5C (not-true _ (and-right (leb 0x20 b && ltb b 0x80 && not (eqb b 0x22)) _ e));
     }
 
+pub no-plain : plainByte 0 ≡ false
+unfolding plainByte
+no-plain = refl
+
 module _ (s : List ℕ) where
   module _ (i b : ℕ) (e : b ≡ byte s i) (h : plainByte b ≡ true) where
     pub plain-inside : i < length s
@@ -135,3 +139,17 @@ module _ (s : List ℕ) where
     go : (j : ℕ) (t : Bool) → ltb j i ≡ t → at ≤ j → j < i + n → plainByte (byte s j) ≡ true
     go j true e l m = p .each j l (ltb-true _ _ e)
     go j false e l m = all-each plainByte s n i h j (ltb-false _ _ e) m
+
+  -- what each plain byte leaves as it is, plain bytes leave as it is
+  module _ {A : Type 0} (f : ℕ → A) (same : (i : ℕ) → plainByte (byte s i) ≡ true → f (i + 1) ≡ f i) where
+    passed : (n at : ℕ) → ((i : ℕ) → at ≤ i → i < at + n → plainByte (byte s i) ≡ true) → f (at + n) ≡ f at
+    passed zero at h = let p : at + 0 ≡ at = omega arith in rw p
+    passed (suc n) at h =
+        let p : at + suc n ≡ at + 1 + n = omega arith in
+        rw p (passed n (at + 1) (λ i l m. h i (omega arith) (omega arith)) ∙ same at (h at (omega arith) (omega arith)))
+
+    pub plain-pass : (at r : ℕ) → PlainTo s at r → f r ≡ f at
+    plain-pass at r p =
+        let l = p .onward in
+        let e : r ≡ at + (r - at) = omega arith in
+        rw e (passed (r - at) at (λ i l m. p .each i l (omega arith)))

@@ -90,6 +90,10 @@ module _ (good : ℕ → Bool) (good0 : good 0 ≡ false) (s : List ℕ) where
   unfolding skipWhile skipTurn
   skip-out i b e h = run-out s 0 (skipTurn good s) i i (rw (← e, h))
 
+  -- no good byte stands past the end
+  pub skip-end : (i : ℕ) → length s ≤ i → i ≡ skipWhile good s i
+  skip-end i h = skip-out i 0 (sym (List·getD-eq-default s 0 h)) good0
+
   onwardF : (n at : ℕ) → length s - at < n → at ≤ runTurns 0 (skipTurn good s) n at
   unfolding runTurns skipTurn
   onwardF zero at h = absurd (omega arith)
@@ -103,6 +107,21 @@ module _ (good : ℕ → Bool) (good0 : good 0 ≡ false) (s : List ℕ) where
   pub skip-onward : (at : ℕ) → at ≤ skipWhile good s at
   unfolding skipWhile runText
   skip-onward at = onwardF (suc (length s)) at (omega arith)
+
+  module _ {A : Type 0} (f : ℕ → A) (same : (i : ℕ) → good (byte s i) ≡ true → f (i + 1) ≡ f i) where
+    passF : (n at : ℕ) → length s - at < n → f (runTurns 0 (skipTurn good s) n at) ≡ f at
+    unfolding runTurns skipTurn
+    passF zero at h = absurd (omega arith)
+    passF (suc n) at h = step (good (byte s at)) refl (λ l. passF n (at + 1) (omega (arith, l))) where
+      step : (t : Bool) → good (byte s at) ≡ t → (at < length s → f (runTurns 0 (skipTurn good s) n (at + 1)) ≡ f (at + 1))
+          → f (afterTurn {A = ℕ} (cond t (on (at + 1)) (out at)) (λ j. runTurns 0 (skipTurn good s) n j)) ≡ f at
+      step true e p = p (good-inside at (byte s at) refl e) ∙ same at e
+      step false e p = refl
+
+    -- what each good byte leaves as it is, is where they end as it was
+    pub skip-pass : (at : ℕ) → f (skipWhile good s at) ≡ f at
+    unfolding skipWhile runText
+    skip-pass at = passF (suc (length s)) at (omega arith)
 
 pub blanks-onward : (s : List ℕ) (at : ℕ) → at ≤ skipWhile blank s at
 blanks-onward s at = skip-onward blank no-blank s at

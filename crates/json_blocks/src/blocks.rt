@@ -5,7 +5,7 @@ ghost use Prim.Native.Nat.{_+_, _≤_};
 ghost use lib.ListN.{length};
 ghost use lib.Dec.{leb};
 ghost use Rattle.json_blocks.specs.TextBytes.{skipBlanks};
-ghost use Rattle.json_blocks.specs.Blocks.{plainByte, ordinaryByte, spaceByte, allAt, PlainTo};
+ghost use Rattle.json_blocks.specs.Blocks.{plainByte, ordinaryByte, spaceByte, allAt};
 
 // How many bytes are tested at once.
 const BLOCK: usize = 8;
@@ -61,22 +61,7 @@ fn is_space(b: u8) -> bool
     b == b' '
 }
 
-// The eight bytes from a place on are plain.
-fn are_plain(s: &[u8], i: usize) -> bool
-    requires { ⌜ i + 8 ≤ length (now s) ⌝ }
-    ensures { λ r. ⌜ r ≡ allAt plainByte 8 (now (s .entry)) i ⌝ }
-{
-    let mut ok = true;
-    let mut k = 0usize;
-    while k < BLOCK {
-        let e = is_plain(s[i + k]);
-        ok = both(ok, e);
-        k += 1;
-    }
-    ok
-}
-
-// They are spaces.
+// The eight bytes from a place on are spaces.
 fn are_spaces(s: &[u8], i: usize) -> bool
     requires { ⌜ i + 8 ≤ length (now s) ⌝ }
     ensures { λ r. ⌜ r ≡ allAt spaceByte 8 (now (s .entry)) i ⌝ }
@@ -89,24 +74,6 @@ fn are_spaces(s: &[u8], i: usize) -> bool
         k += 1;
     }
     ok
-}
-
-// Past blocks of plain bytes.
-pub fn skip_plain(s: &[u8], at: usize) -> usize
-    ensures { λ r. ⌜ PlainTo (now (s .entry)) at r ⌝ }
-{
-    let mut i = at;
-    loop {
-        if has_room(s, i, BLOCK) {
-            if are_plain(s, i) {
-                i += BLOCK;
-            } else {
-                return i;
-            }
-        } else {
-            return i;
-        }
-    }
 }
 
 // Past blocks of spaces.

@@ -2,7 +2,7 @@
 use mathlib.Core.Path.{_≡_, refl, sym, ap, subst, _∙_}
 use mathlib.Core.Bool.{Bool, true, false, cond}
 use mathlib.Core.List.{List}
-use Prim.Native.Nat.{ℕ, zero, suc, _≤_, _<_, _+_, _-_, _*_}
+use Prim.Native.Nat.{ℕ, zero, suc, _≤_, _<_, _+_, _*_}
 use native.Mathlib.Omega.{arith}
 use lib.ListN.{length}
 use lib.Dec.{eqb, ltb}
@@ -13,12 +13,12 @@ use Rattle.json_blocks.specs.declared.Read.the-variants.{To, Bad}
 use Rattle.json_characters.specs.declared.Hex4.{Hex4}
 use Rattle.json_characters.specs.declared.Hex4.the-variants as H
 use Rattle.json_blocks.specs.Turns.{Turn, on, out, afterTurn, runTurns, runText}
-use Rattle.json_blocks.specs.TextBytes.{byte, to, within, byteWithin}
+use Rattle.json_blocks.specs.TextBytes.{byte, to, within, skipWhile, byteWithin}
 use Rattle.json_blocks.specs.Blocks.{plainByte, PlainTo}
 use Rattle.json_characters.specs.String.{twoBytes, threeBytes, multibyteAt, hexValue, ifHex, hex4At, afterHex4, lowSurrogateAt, unicodeEscapeAt, shortEscape, escapeAt, characterAt, onward, stringTurn, stringAt}
 use Rattle.json_blocks.proofs.TurnLaws.{Advances, run-out, run-on}
-use Rattle.json_blocks.proofs.BlockLaws.{plain-is}
-use Rattle.json_blocks.proofs.ByteLaws.{inside, cond-elim, then-bad, then-to, Onward, on-to, on-bad, onward-is, onward-cond, onward-less, onward-past, onward-then, byte-onward}
+use Rattle.json_blocks.proofs.BlockLaws.{plain-is, no-plain, plain-pass}
+use Rattle.json_blocks.proofs.ByteLaws.{inside, cond-elim, skip-on, then-bad, then-to, Onward, on-to, on-bad, onward-is, onward-cond, onward-less, onward-past, onward-then, byte-onward}
 
 -- ---- characters of several bytes
 module _ (s : List ℕ) (lo hi at : ℕ) (r : Read) (e : r ≡ byteWithin s lo hi at) where
@@ -289,16 +289,10 @@ module _ (s : List ℕ) where
       let p = plain-is b h in
       string-on s i b e (p .quote) (to (i + 1)) (character-plain s i b e (p .low) (p .slash) (p .high)) (record { at = i + 1 }) refl
 
-  string-from : (n at : ℕ) → ((i : ℕ) → at ≤ i → i < at + n → plainByte (byte s i) ≡ true) → stringAt s (at + n) ≡ stringAt s at
-  string-from zero at h = let p : at + 0 ≡ at = omega arith in rw p
-  string-from (suc n) at h =
-      let p : at + suc n ≡ at + 1 + n = omega arith in
-      let q = plain-string at (byte s at) refl (h at (omega arith) (omega arith)) in
-      rw p (string-from n (at + 1) (λ i l m. h i (omega arith) (omega arith)) ∙ q)
-
   -- a string goes on past plain bytes
   pub plain-strings : (at r : ℕ) → PlainTo s at r → stringAt s r ≡ stringAt s at
-  plain-strings at r p =
-      let l = p .onward in
-      let e : r ≡ at + (r - at) = omega arith in
-      rw e (string-from (r - at) at (λ i l m. p .each i l (omega arith)))
+  plain-strings = plain-pass s (stringAt s) (λ i h. plain-string i (byte s i) refl h)
+
+  -- so do the plain bytes themselves
+  pub plain-skips : (at r : ℕ) → PlainTo s at r → skipWhile plainByte s r ≡ skipWhile plainByte s at
+  plain-skips = plain-pass s (skipWhile plainByte s) (λ i h. skip-on plainByte no-plain s i (byte s i) refl h)

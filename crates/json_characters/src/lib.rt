@@ -1,11 +1,14 @@
 // Strings of a JSON text, their characters and escapes. A function gets a cursor by value and returns the one past what it read.
+mod plain;
+
+pub use plain::skip_plain_bytes;
 ghost use mathlib.Core.Path.{_≡_};
 ghost use Prim.Native.Nat.{ℕ, _<_};
 ghost use Rattle.json_blocks.specs.TextBytes.{byteWithin};
 ghost use Rattle.json_characters.specs.String.{twoBytes, threeBytes, multibyteAt, hexValue, hex4At, lowSurrogateAt, unicodeEscapeAt, shortEscape, escapeAt, characterAt, stringAt};
+use crate::plain::skip_plain;
 use json_blocks::Cursor;
 use json_blocks::Read;
-use json_blocks::blocks::skip_plain;
 use json_blocks::code_within;
 use json_blocks::is_within;
 use json_blocks::peek;

@@ -15,11 +15,13 @@ use Rattle.json_characters.specs.declared.Hex4.the-variants as H
 use Rattle.json_blocks.specs.declared.Read.{Read}
 use Rattle.json_blocks.specs.declared.Read.the-variants as R
 use Rattle.json_blocks.specs.Turns.{Turn, on, out, runText}
-use Rattle.json_blocks.specs.TextBytes.{byte, to, within}
+use Rattle.json_blocks.specs.TextBytes.{byte, to, within, skipWhile}
+use Rattle.json_blocks.specs.Blocks.{plainByte}
 use Rattle.json_characters.specs.String.{hexValue, ifHex, hex4At, characterAt}
 use Rattle.json_blocks.proofs.TurnLaws.{Advances, run-out, run-on}
-use Rattle.json_blocks.proofs.ByteLaws.{inside, Onward, onward-is}
-use Rattle.json_characters.proofs.StringLaws.{character-onward}
+use Rattle.json_blocks.proofs.ByteLaws.{inside, skip-onward, skip-pass, Onward, onward-is}
+use Rattle.json_blocks.proofs.BlockLaws.{plain-is, no-plain, plain-inside}
+use Rattle.json_characters.proofs.StringLaws.{character-plain, character-onward}
 use Rattle.json_strings.specs.declared.Unit.{Unit}
 use Rattle.json_strings.specs.declared.Unit.the-variants.{Byte, Escape}
 use Rattle.json_strings.specs.declared.Position.{Position}
@@ -433,6 +435,20 @@ module _ (s : List ℕ) where
           pub body-on : runText s false (bodyTurn s) (c .at) ≡ runText s false (bodyTurn s) i
           unfolding bodyTurn
           body-on = run-on s false (bodyTurn s) body-advances i (c .at) (rw (lt-leb _ _ l, ne-eqb _ _ h, ← er, g))
+
+  -- a plain byte is a character
+  body-plain : (i : ℕ) → plainByte (byte s i) ≡ true → runText s false (bodyTurn s) (i + 1) ≡ runText s false (bodyTurn s) i
+  body-plain i t =
+      let p = plain-is (byte s i) t in
+      body-on i (plain-inside s i (byte s i) refl t) (p .quote) (to (i + 1)) (character-plain s i (byte s i) refl (p .low) (p .slash) (p .high)) (record { at = i + 1 }) refl
+
+  -- past plain bytes, the first of them at i
+  module _ (i j : ℕ) (t : plainByte (byte s i) ≡ true) (e : j ≡ skipWhile plainByte s (i + 1)) where
+    pub body-skip-less : i < j
+    body-skip-less = omega (arith, e, skip-onward plainByte no-plain s (i + 1))
+
+    pub body-skip-on : runText s false (bodyTurn s) j ≡ runText s false (bodyTurn s) i
+    body-skip-on = rw e (skip-pass plainByte no-plain s (runText s false (bodyTurn s)) body-plain (i + 1) ∙ body-plain i t)
 
 -- ---- bytes that are neither a backslash nor a quote, up to the end z, stand for themselves
 module _ (s : List ℕ) where

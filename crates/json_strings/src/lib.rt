@@ -12,11 +12,13 @@ ghost use Rattle.json_strings.specs.Utf8Code.{laterByte};
 ghost use Rattle.json_strings.specs.Utf8.{utf8};
 use json_blocks::Cursor;
 use json_blocks::Read;
+use json_blocks::blocks::is_plain;
 use json_blocks::code_within;
 use json_blocks::peek;
 use json_characters::Hex4;
 use json_characters::character;
 use json_characters::four_digits;
+use json_characters::skip_plain_bytes;
 
 // What stands at a place of a string: a byte for itself, or an escape: its code point, and the place past it.
 pub enum Unit {
@@ -281,6 +283,10 @@ pub fn is_body(s: &[u8]) -> bool
 {
     let mut i = 0usize;
     while i < s.len() {
+        if is_plain(s[i]) {
+            i = skip_plain_bytes(s, i + 1);
+            continue;
+        }
         if s[i] == b'"' {
             return false;
         }

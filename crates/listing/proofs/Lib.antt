@@ -1,3 +1,2 @@
-pub mod RowLines
 pub mod LineLaws
 pub mod ListingLaws

@@ -1,30 +1,27 @@
 -- Laws of the lines.
 use Prim.Native.Nat.{ℕ, _+_, _-_, _≤_, _<_}
-use mathlib.Core.Path.{_≡_, refl, sym, ap, _∙_}
+use mathlib.Core.Path.{_≡_, sym, ap, _∙_}
 use mathlib.Core.List.{List, [], _∷_, _++_}
 use native.Mathlib.Omega.{arith}
-use lib.ListN.{length, length-append}
+use lib.ListN.{length}
 use Rattle.json_blocks.specs.TextBytes.{ascii}
 use Rattle.sigmf_datatypes.specs.Datatypes.{datatypeName}
 use Rattle.table.specs.declared.Annotation.{Annotation}
 use Rattle.table.specs.declared.Capture.{Capture}
 use Rattle.table.specs.declared.Place.{Place}
 use Rattle.table.specs.declared.Summary.{Summary}
-use Rattle.decimal.specs.Decimal.{digitsOf}
-use Rattle.listing_text.specs.declared.Left.{Left}
-use Rattle.listing_text.specs.declared.Left.the-variants.{Over}
-use Rattle.listing_text.specs.Left.{leftAfter}
+use Rattle.output.specs.declared.Left.{Left}
+use Rattle.output.specs.declared.Left.the-variants.{Over}
+use Rattle.output.specs.Left.{leftAfter}
+use Rattle.output.proofs.LeftLaws.{left-over, left-on}
+use Rattle.output.proofs.Writing.{Parts, parts-of, parts-long, pair-parts, parts-pair, parts-pair-next}
+use Rattle.decimal.specs.Decimal.{digitsOf, field}
+use Rattle.decimal.proofs.PutLaws.{field-long}
 use Rattle.listing_text.specs.Shown.{shownText}
-use Rattle.listing_text.proofs.LeftLaws.{left-over, left-on}
-use Rattle.listing_text.proofs.Writing.{joined, Parts, parts-of, pair-parts, parts-pair, parts-pair-next}
-use Rattle.listing.specs.Lines.{field, feed, recordingLine, captureLine, annotationLine}
+use Rattle.listing.specs.Lines.{feed, recordingLine, captureLine, annotationLine}
 use Rattle.listing.specs.LineParts.{twoFields, lastText}
 
 -- ---- their parts, and the parts that they are written in
-pub field-parts : (w : List ℕ) (n : ℕ) → Parts (field w n) (w ∷ digitsOf n ∷ [])
-unfolding field
-field-parts w n = parts-of w (digitsOf n ∷ [])
-
 pub two-parts : (w : List ℕ) (a : ℕ) (v : List ℕ) (b : ℕ) → Parts (twoFields w a v b) (field w a ∷ field v b ∷ [])
 two-parts w a v b = pair-parts (field w a) (field v b)
 
@@ -59,21 +56,6 @@ pub annotation-parts : (s : List ℕ) (r : Annotation) → Parts (annotationLine
 annotation-parts s r = parts-pair-next (parts-pair-next (parts-pair (annotation-all s r)))
 
 -- ---- how long they are
-abbrev total : List (List ℕ) → ℕ
-total [] = 0
-total (X ∷ ps) = length X + total ps
-
-joined-long : (ps : List (List ℕ)) → length (joined ps) ≡ total ps
-joined-long [] = refl
-joined-long (X ∷ ps) = length-append X (joined ps) ∙ ap (λ (n : ℕ). length X + n) (joined-long ps)
-
-pub parts-long : {F : List ℕ} {ps : List (List ℕ)} → Parts F ps → length F ≡ total ps
-parts-long {ps = ps} P = ap length (P .whole) ∙ joined-long ps
-
-field-long : (w : List ℕ) (n : ℕ) → length (field w n) ≡ length w + length (digitsOf n)
-unfolding field
-field-long w n = length-append w (digitsOf n)
-
 pub recording-long : (t : Summary) (a b c d : ℕ) → a ≡ length (datatypeName (t .datatype)) → b ≡ length (digitsOf (t .channels)) → c ≡ length (digitsOf (t .offset)) → d ≡ length (digitsOf (t .samples))
     → 38 + a + b + c + d ≡ length (recordingLine t)
 recording-long t a b c d p q u v =

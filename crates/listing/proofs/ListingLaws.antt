@@ -1,44 +1,24 @@
 -- Laws of the whole listing.
 use Prim.Native.Nat.{ℕ, _+_, _-_, _≤_, _<_}
 use mathlib.Core.Path.{_≡_, sym, ap, _∙_}
-use mathlib.Core.Bool.{Bool, true, false, _&&_}
+use mathlib.Core.Bool.{Bool, true, false}
 use mathlib.Core.List.{List, [], _∷_}
 use native.Mathlib.Omega.{arith}
 use lib.ListN.{length}
 use borrow.Author.Tests.{le-leb, lt-leb}
-use Rattle.table.specs.declared.Annotation.{Annotation}
 use Rattle.table.specs.declared.Summary.{Summary}
 use Rattle.table.specs.Memory.{written}
-use Rattle.table.specs.Rows.{annotationAt, rest, flat, captures, annotations, table}
+use Rattle.table.specs.Rows.{flat, captures, annotations, table}
 use Rattle.table.specs.Table.{wellFormed}
-use Rattle.table.proofs.RowLaws.{rest-at, rest-none}
-use Rattle.listing_labels.specs.Label.{labelOk, labelsOk}
-use Rattle.listing_text.specs.declared.Left.{Left}
-use Rattle.listing_text.specs.declared.Left.the-variants.{Bytes, Over}
-use Rattle.listing_text.specs.Left.{leftAfter}
-use Rattle.listing.specs.Lines.{recordingLine, captureLine, annotationLine}
 use Rattle.table.specs.Wrote.{wrote}
+use Rattle.output.specs.declared.Left.{Left}
+use Rattle.output.specs.declared.Left.the-variants.{Bytes, Over}
+use Rattle.output.specs.Left.{leftAfter}
+use Rattle.output.proofs.Writing.{Parts, parts-of, parts-long}
+use Rattle.output.proofs.LeftLaws.{left-over, left-on, left-some, left-bytes, left-none}
+use Rattle.listing_labels.specs.Label.{labelsOk}
+use Rattle.listing.specs.Lines.{recordingLine, captureLine, annotationLine}
 use Rattle.listing.specs.Listing.{listingOf, listingAnswer, listingMemory}
-use Rattle.listing_text.proofs.Writing.{Parts, parts-of}
-use Rattle.listing.proofs.LineLaws.{parts-long}
-use Rattle.listing_text.proofs.LeftLaws.{left-over, left-on, left-some, left-bytes, left-none}
-
--- ---- the labels
-module _ (s l : List ℕ) (n k : ℕ) (E : Bool) (inv : labelsOk s (rest (annotationAt l) n k) ≡ E) where
-  pub labels-end : n ≤ k → true ≡ E
-  unfolding labelsOk
-  labels-end h = ap (labelsOk s) (sym (rest-none (annotationAt l) n k h)) ∙ inv
-
-  module _ (x : Annotation) (t : Bool) (e : x ≡ annotationAt l k) (h : k < n) (z : t ≡ labelOk s x) where
-    row-test : t && labelsOk s (rest (annotationAt l) n (k + 1)) ≡ E
-    unfolding labelsOk
-    row-test = rw z (ap (labelsOk s) (sym (rest-at (annotationAt l) n k x e h)) ∙ inv)
-
-    pub labels-on : t ≡ true → labelsOk s (rest (annotationAt l) n (k + 1)) ≡ E
-    labels-on q = ap (λ (b : Bool). b && labelsOk s (rest (annotationAt l) n (k + 1))) (sym q) ∙ row-test
-
-    pub labels-bad : t ≡ false → false ≡ E
-    labels-bad q = ap (λ (b : Bool). b && labelsOk s (rest (annotationAt l) n (k + 1))) (sym q) ∙ row-test
 
 -- ---- the whole
 module _ (t : Summary) (caps notes s : List ℕ) where

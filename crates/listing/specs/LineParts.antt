@@ -3,8 +3,9 @@ use Prim.Native.Nat.{ℕ}
 use mathlib.Core.List.{List, _++_}
 use Rattle.json_blocks.specs.TextBytes.{ascii}
 use Rattle.table.specs.declared.Place.{Place}
+use Rattle.decimal.specs.Decimal.{field}
 use Rattle.listing_text.specs.Shown.{shownText}
-use Rattle.listing.specs.Lines.{field, feed}
+use Rattle.listing.specs.Lines.{feed}
 
 -- two words, each with its number
 abbrev pub twoFields : List ℕ → ℕ → List ℕ → ℕ → List ℕ

@@ -6,12 +6,8 @@ use Rattle.sigmf_datatypes.specs.Datatypes.{datatypeName}
 use Rattle.table.specs.declared.Annotation.{Annotation}
 use Rattle.table.specs.declared.Capture.{Capture}
 use Rattle.table.specs.declared.Summary.{Summary}
-use Rattle.decimal.specs.Decimal.{digitsOf}
+use Rattle.decimal.specs.Decimal.{field}
 use Rattle.listing_text.specs.Shown.{shownText}
-
--- a word and a number
-unfoldable pub field : List ℕ → ℕ → List ℕ
-field word n = word ++ digitsOf n
 
 -- "Each line ends in one line feed"
 abbrev pub feed : List ℕ

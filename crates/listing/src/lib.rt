@@ -6,9 +6,8 @@ ghost use Prim.Native.Nat.{_+_, _≤_};
 ghost use lib.ListN.{length};
 ghost use Rattle.table.specs.Memory.{written};
 ghost use Rattle.table.specs.Rows.{flat, captures, annotations, table};
-ghost use Rattle.listing_labels.specs.Label.{labelsOk};
-ghost use Rattle.listing_text.specs.Left.{leftAfter};
-ghost use Rattle.listing.specs.Lines.{recordingLine, captureLine, annotationLine};
+ghost use Rattle.output.specs.Left.{leftAfter};
+ghost use Rattle.listing.specs.Lines.{captureLine, annotationLine};
 ghost use Rattle.listing.specs.Listing.{listingOf, listingAnswer, listingMemory};
 use crate::lines::annotation_left;
 use crate::lines::capture_length;
@@ -16,26 +15,9 @@ use crate::lines::put_annotation_line;
 use crate::lines::put_capture_line;
 use crate::lines::put_recording_line;
 use crate::lines::recording_length;
-use listing_text::Left;
+use output::Left;
 use table::Summary;
 use table::Wrote;
-
-// Each label is absent or stands at its place.
-fn labels_ok(t: Summary, notes: &[u64], s: &[u8]) -> bool
-    ensures { λ r. ⌜ r ≡ labelsOk (now (s .entry)) (annotations (now (notes .entry)) (t .annotations)) ⌝ }
-{
-    let n = t.annotations as usize;
-    let mut k: usize = 0;
-    while k < n {
-        let x = table::annotation_at(notes, k);
-        if listing_labels::text_good(s, x.texts.label) {
-            k += 1;
-        } else {
-            return false;
-        }
-    }
-    true
-}
 
 // What the captures' lines leave of the room.
 fn captures_left(t: Summary, caps: &[u64], room: usize) -> Left
@@ -145,7 +127,7 @@ pub fn listing(t: Summary, caps: &[u64], notes: &[u64], s: &[u8], out: &mut [u8]
     ensures memory { λ r. ⌜ now (out .exit) ≡ listingMemory (table t (now (caps .entry)) (now (notes .entry))) (now (s .entry)) (now (out .entry)) ⌝ }
 {
     if table::well_formed(t, caps, notes) {
-        if labels_ok(t, notes, s) {
+        if listing_labels::labels_ok(t, notes, s) {
             let g = listing_left(t, caps, notes, s, out.len());
             let Left::Bytes(left) = g else {
                 return Wrote {

@@ -5,58 +5,20 @@ ghost use mathlib.Core.List.{_++_};
 ghost use lib.ListN.{length};
 ghost use Rattle.sigmf_datatypes.specs.Datatypes.{datatypeName};
 ghost use Rattle.table.specs.Memory.{written};
-ghost use Rattle.decimal.specs.Decimal.{digitsOf};
-ghost use Rattle.listing_text.specs.Left.{leftAfter};
-ghost use Rattle.listing.specs.Lines.{field, recordingLine, captureLine, annotationLine};
+ghost use Rattle.output.specs.Left.{leftAfter};
+ghost use Rattle.listing.specs.Lines.{recordingLine, captureLine, annotationLine};
 ghost use Rattle.listing.specs.LineParts.{twoFields, lastText};
-use listing_text::Left;
+use decimal::decimal_length;
+use decimal::put_field;
 use listing_text::put_text;
 use listing_text::text_left;
+use output::Left;
+use output::put_datatype_name;
+use output::put_word;
 use table::Annotation;
 use table::Capture;
 use table::Place;
 use table::Summary;
-
-// A word's bytes, and how many they are.
-fn put_word(out: &mut [u8], word: &[u8]) -> usize
-    requires { ⌜ length (now word) ≤ length (now out) ⌝ }
-    ensures count { λ r. ⌜ r ≡ length (now (word .entry)) ⌝ }
-    ensures memory { λ r. ⌜ now (out .exit) ≡ written (now (word .entry)) (now (out .entry)) ⌝ }
-{
-    let n = word.len();
-    let mut i: usize = 0;
-    while i < n {
-        out[i] = word[i];
-        i += 1;
-    }
-    n
-}
-
-// A datatype's name, and how many bytes it has.
-fn put_name(out: &mut [u8], code: u64) -> usize
-    requires { ⌜ length (datatypeName code) ≤ length (now out) ⌝ }
-    ensures count { λ r. ⌜ r ≡ length (datatypeName code) ⌝ }
-    ensures memory { λ r. ⌜ now (out .exit) ≡ written (datatypeName code) (now (out .entry)) ⌝ }
-{
-    let n = sigmf_datatypes::name_length(code);
-    let mut i: usize = 0;
-    while i < n {
-        out[i] = sigmf_datatypes::name_byte(code, i);
-        i += 1;
-    }
-    n
-}
-
-// A word and a number, and how many bytes they are.
-fn put_field(out: &mut [u8], word: &[u8], n: u64) -> usize
-    requires { ⌜ length (field (now word) n) ≤ length (now out) ⌝ }
-    ensures count { λ r. ⌜ r ≡ length (field (now (word .entry)) n) ⌝ }
-    ensures memory { λ r. ⌜ now (out .exit) ≡ written (field (now (word .entry)) n) (now (out .entry)) ⌝ }
-{
-    let a = put_word(out, word);
-    let b = decimal::put_decimal(&mut out[a..], n);
-    a + b
-}
 
 // Two words, each with its number, and how many bytes they are.
 fn put_two(out: &mut [u8], first: &[u8], n: u64, second: &[u8], m: u64) -> usize
@@ -76,7 +38,7 @@ fn put_datatype(out: &mut [u8], word: &[u8], code: u64) -> usize
     ensures memory { λ r. ⌜ now (out .exit) ≡ written (now (word .entry) ++ datatypeName code) (now (out .entry)) ⌝ }
 {
     let a = put_word(out, word);
-    let b = put_name(&mut out[a..], code);
+    let b = put_datatype_name(&mut out[a..], code);
     a + b
 }
 
@@ -92,13 +54,6 @@ fn put_last(out: &mut [u8], s: &[u8], p: Place) -> usize
     n + 1
 }
 
-// How many digits a number has.
-fn number_length(n: u64) -> usize
-    ensures { λ r. ⌜ (r ≡ length (digitsOf n)) × (r ≤ 20) ⌝ }
-{
-    decimal::decimal_length(n)
-}
-
 // A datatype's name has so many bytes.
 fn name_length(code: u64) -> usize
     ensures { λ r. ⌜ (r ≡ length (datatypeName code)) × (r ≤ 8) ⌝ }
@@ -110,9 +65,9 @@ pub(crate) fn recording_length(t: Summary) -> usize
     ensures { λ r. ⌜ r ≡ length (recordingLine t) ⌝ }
 {
     let d = name_length(t.datatype);
-    let c = number_length(t.channels);
-    let o = number_length(t.offset);
-    let n = number_length(t.samples);
+    let c = decimal_length(t.channels);
+    let o = decimal_length(t.offset);
+    let n = decimal_length(t.samples);
     38 + d + c + o + n
 }
 
@@ -138,10 +93,10 @@ pub(crate) fn put_recording_line(out: &mut [u8], t: Summary) -> usize
 pub(crate) fn capture_length(x: Capture) -> usize
     ensures { λ r. ⌜ r ≡ length (captureLine x) ⌝ }
 {
-    let a = number_length(x.start);
-    let b = number_length(x.end);
-    let c = number_length(x.first);
-    let d = number_length(x.header);
+    let a = decimal_length(x.start);
+    let b = decimal_length(x.end);
+    let c = decimal_length(x.first);
+    let d = decimal_length(x.header);
     12 + a + b + c + d
 }
 
@@ -160,8 +115,8 @@ pub(crate) fn put_capture_line(out: &mut [u8], x: Capture) -> usize
 pub(crate) fn annotation_left(x: Annotation, s: &[u8], room: usize) -> Left
     ensures { λ r. ⌜ r ≡ leftAfter room (length (annotationLine (now (s .entry)) x)) ⌝ }
 {
-    let a = number_length(x.start);
-    let b = number_length(x.end);
+    let a = decimal_length(x.start);
+    let b = decimal_length(x.end);
     let n = 14 + a + b;
     if n > room {
         return Left::Over;

@@ -1,18 +1,19 @@
 -- Laws of the lookup of a label. An answer is the part l, its number of refusal and whether there is a label.
 use Prim.Native.Nat.{ℕ, _+_, _≤_, _<_, min}
 use mathlib.Core.Path.{_≡_, sym, ap, _∙_}
-use mathlib.Core.Bool.{Bool, true, false}
+use mathlib.Core.Bool.{Bool, true, false, _&&_}
 use mathlib.Core.List.{List}
 use native.Mathlib.Omega.{arith}
 use borrow.Author.Tests.{lt-ltb, le-ltb}
 use Rattle.table.specs.declared.Place.{Place}
 use Rattle.table.specs.declared.Annotation.{Annotation}
 use Rattle.table.specs.declared.Summary.{Summary}
-use Rattle.table.specs.Rows.{annotationAt, table}
+use Rattle.table.specs.Rows.{annotationAt, rest, table}
+use Rattle.table.proofs.RowLaws.{rest-at, rest-none}
 use Rattle.table.specs.Table.{wellFormed}
 use Rattle.table.specs.Place.{absent}
 use Rattle.listing_labels.specs.Text.{part, placeFrom, stands}
-use Rattle.listing_labels.specs.Label.{Found, labelRefused, noLabel, labelFound, labelFrom, labelOf, labelAnswer}
+use Rattle.listing_labels.specs.Label.{Found, labelRefused, noLabel, labelFound, labelFrom, labelOf, labelAnswer, labelOk, labelsOk}
 use Rattle.listing_labels.proofs.TextLaws.{stands-is, stands-inside}
 
 -- ---- of one row; a: whether its label is absent, b: whether it stands
@@ -66,3 +67,20 @@ at-front n a b h = omega (arith, h)
 
 pub at-label : (s : List ℕ) (p : Place) (t : Bool) → t ≡ stands s p → t ≡ true → (a b : ℕ) → a ≡ b + placeFrom s p → a ≡ b + p .at
 at-label s p t z k a b h = omega (arith, h, stands-inside s p (stands-is s p (sym z ∙ k)))
+
+-- ---- all labels from row k on
+module _ (s l : List ℕ) (n k : ℕ) (E : Bool) (inv : labelsOk s (rest (annotationAt l) n k) ≡ E) where
+  pub labels-end : n ≤ k → true ≡ E
+  unfolding labelsOk
+  labels-end h = ap (labelsOk s) (sym (rest-none (annotationAt l) n k h)) ∙ inv
+
+  module _ (x : Annotation) (t : Bool) (e : x ≡ annotationAt l k) (h : k < n) (z : t ≡ labelOk s x) where
+    row-test : t && labelsOk s (rest (annotationAt l) n (k + 1)) ≡ E
+    unfolding labelsOk
+    row-test = rw z (ap (labelsOk s) (sym (rest-at (annotationAt l) n k x e h)) ∙ inv)
+
+    pub labels-on : t ≡ true → labelsOk s (rest (annotationAt l) n (k + 1)) ≡ E
+    labels-on q = ap (λ (b : Bool). b && labelsOk s (rest (annotationAt l) n (k + 1))) (sym q) ∙ row-test
+
+    pub labels-bad : t ≡ false → false ≡ E
+    labels-bad q = ap (λ (b : Bool). b && labelsOk s (rest (annotationAt l) n (k + 1))) (sym q) ∙ row-test

@@ -1,10 +1,10 @@
 // The label of an annotation, as a part of the lent metadata.
 ghost use mathlib.Core.Path.{_≡_};
 ghost use Prim.Native.Nat.{_+_};
-ghost use Rattle.table.specs.Rows.{annotationAt, table};
+ghost use Rattle.table.specs.Rows.{annotations, table};
 ghost use Rattle.table.specs.Place.{absent};
 ghost use Rattle.listing_labels.specs.Text.{part, placeFrom, stands, textGood};
-ghost use Rattle.listing_labels.specs.Label.{labelAnswer, labelFrom, labelOf, labelStart};
+ghost use Rattle.listing_labels.specs.Label.{labelAnswer, labelFrom, labelOf, labelStart, labelsOk};
 use table::Annotation;
 use table::Place;
 use table::Summary;
@@ -63,13 +63,30 @@ fn text_stands(s: &[u8], p: Place) -> bool
 }
 
 // A text is absent, or stands at its place.
-pub fn text_good(s: &[u8], p: Place) -> bool
+fn text_good(s: &[u8], p: Place) -> bool
     ensures { λ r. ⌜ r ≡ textGood (now (s .entry)) p ⌝ }
 {
     if is_absent(p) {
         return true;
     }
     text_stands(s, p)
+}
+
+// Each label is absent or stands at its place.
+pub fn labels_ok(t: Summary, notes: &[u64], s: &[u8]) -> bool
+    ensures { λ r. ⌜ r ≡ labelsOk (now (s .entry)) (annotations (now (notes .entry)) (t .annotations)) ⌝ }
+{
+    let n = t.annotations as usize;
+    let mut k: usize = 0;
+    while k < n {
+        let x = table::annotation_at(notes, k);
+        if text_good(s, x.texts.label) {
+            k += 1;
+        } else {
+            return false;
+        }
+    }
+    true
 }
 
 // The label of an annotation's row; in refusal 18 or 0, in present 1 or 0.

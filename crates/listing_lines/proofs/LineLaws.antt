@@ -19,12 +19,12 @@ use Rattle.table.specs.declared.Capture.{Capture}
 use Rattle.table.specs.declared.Summary.{Summary}
 use Rattle.table.specs.Rows.{flat}
 use Rattle.table.proofs.Bools.{and-left, and-right}
-use Rattle.decimal.specs.Decimal.{digitsOf}
+use Rattle.decimal.specs.Decimal.{digitsOf, field}
 use Rattle.decimal.proofs.Digits.{digits-rec}
 use Rattle.table.specs.Place.{absent}
 use Rattle.listing_labels.specs.Text.{part}
 use Rattle.listing_text.specs.Shown.{hexDigitOf, asItIs, shownByte, quoted, shownText}
-use Rattle.listing.specs.Lines.{field, feed, recordingLine, captureLine, annotationLine}
+use Rattle.listing.specs.Lines.{feed, recordingLine, captureLine, annotationLine}
 use Rattle.listing_lines.specs.Split.{before, splitLines}
 
 -- ---- texts without the byte c

@@ -23,11 +23,11 @@ use Rattle.table.specs.declared.Place.{Place}
 use Rattle.table.specs.declared.Annotation.{Annotation}
 use Rattle.table.specs.Rows.{flat}
 use Rattle.table.proofs.Bools.{and-left, and-right}
-use Rattle.decimal.specs.Decimal.{digitsOf}
+use Rattle.decimal.specs.Decimal.{digitsOf, field}
 use Rattle.table.specs.Place.{absent}
 use Rattle.listing_labels.specs.Text.{part}
 use Rattle.listing_text.specs.Shown.{hexDigitOf, asItIs, shownByte, quoted, shownText}
-use Rattle.listing.specs.Lines.{field, feed, annotationLine}
+use Rattle.listing.specs.Lines.{feed, annotationLine}
 use Rattle.listing_lines.specs.Recover.{upTo, past, hexIn, unquoted, shownIn, labelText}
 use Rattle.listing_lines.proofs.LineLaws.{Free, all-join, digits-free, as-is}
 

@@ -1,3 +1,1 @@
-pub mod Writing
-pub mod LeftLaws
 pub mod ShownLaws

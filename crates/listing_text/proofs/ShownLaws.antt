@@ -15,13 +15,13 @@ use Rattle.table.specs.declared.Place.{Place}
 use Rattle.table.specs.Memory.{written}
 use Rattle.table.specs.Rows.{flat}
 use Rattle.table.specs.Place.{absent}
+use Rattle.output.specs.declared.Left.{Left}
+use Rattle.output.specs.declared.Left.the-variants.{Bytes, Over}
+use Rattle.output.specs.Left.{leftAfter}
+use Rattle.output.proofs.LeftLaws.{left-end, left-over, left-on}
+use Rattle.output.proofs.Writing.{Parts, parts-of, Writes, writes-empty, writes-split}
 use Rattle.listing_labels.specs.Text.{part}
-use Rattle.listing_text.specs.declared.Left.{Left}
-use Rattle.listing_text.specs.declared.Left.the-variants.{Bytes, Over}
-use Rattle.listing_text.specs.Left.{leftAfter}
 use Rattle.listing_text.specs.Shown.{hexDigitOf, asItIs, shownByte, quoted, shownText}
-use Rattle.listing_text.proofs.LeftLaws.{left-end, left-over, left-on}
-use Rattle.listing_text.proofs.Writing.{Parts, parts-of, Writes, writes-empty, writes-split}
 
 -- ---- one byte
 pub hex-low : (d : ℕ) → d < 10 → 0x30 + d ≡ hexDigitOf d

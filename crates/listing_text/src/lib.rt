@@ -5,18 +5,13 @@ ghost use lib.ListN.{length};
 ghost use Rattle.json_strings.specs.Decode.{decodedFrom};
 ghost use Rattle.table.specs.Memory.{written};
 ghost use Rattle.table.specs.Rows.{flat};
-ghost use Rattle.decimal.specs.Decimal.{putCount, putFront};
-ghost use Rattle.listing_text.specs.Left.{leftAfter};
+ghost use Rattle.output.specs.Left.{leftAfter};
+ghost use Rattle.output.specs.Put.{putCount, putFront};
 ghost use Rattle.listing_text.specs.Shown.{hexDigitOf, asItIs, shownByte, quoted, shownText};
 use json_strings::Position;
 use json_strings::Stream;
+use output::Left;
 use table::Place;
-
-// How many bytes of a room are left, or that it is too small.
-pub enum Left {
-    Bytes(usize),
-    Over,
-}
 
 // A byte is shown as it is.
 fn is_as_it_is(b: u8) -> bool

@@ -18,7 +18,7 @@ use listing_labels::label;
 use table::Summary;
 
 // The most bytes of lent output.
-const BYTES: usize = 65536;
+pub(crate) const BYTES: usize = 65536;
 
 // The head is one number and the summary's twelve, and the metadata follows the rows.
 pub(crate) fn run_listing(
@@ -39,7 +39,7 @@ pub(crate) fn run_listing(
 }
 
 // How many numbers there are in a head, in both kinds of rows and in their counts.
-fn count_numbers(head: &[u64], caps: &[u64], notes: &[u64]) -> usize {
+pub(crate) fn count_numbers(head: &[u64], caps: &[u64], notes: &[u64]) -> usize {
     let n = std::num::wrapping_add_usize(caps.len(), notes.len());
     std::num::wrapping_add_usize(std::num::wrapping_add_usize(head.len(), 2), n)
 }

@@ -14,6 +14,7 @@ mod reading_cases;
 mod steps_cases;
 mod sum;
 mod table_cases;
+mod writing_cases;
 
 use crate::body_cases::compare_parts;
 use crate::field_cases::answer_datatype;
@@ -85,6 +86,7 @@ fn answer(letter: u8, payload: &[u8]) -> bool {
         b'z' => run_table(letter, payload),
         b'l' => run_table(letter, payload),
         b'p' => run_table(letter, payload),
+        b'w' => run_table(letter, payload),
         b'q' => answer_first_line(payload),
         b'r' => run_reading(payload),
         _ => answer_field(letter, payload),

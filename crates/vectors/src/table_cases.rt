@@ -7,6 +7,7 @@ use crate::operations::run_operation;
 use crate::parts::first;
 use crate::parts::past;
 use crate::steps_cases::run_steps;
+use crate::writing_cases::run_writing;
 use table::Place;
 use table::Summary;
 
@@ -64,6 +65,9 @@ fn run_rows(
     }
     if letter == b'z' {
         return run_steps(head, caps, notes, asked);
+    }
+    if letter == b'w' {
+        return run_writing(payload, head, caps, notes);
     }
     run_listing(letter, payload, head, caps, notes)
 }

@@ -4,6 +4,8 @@
 mod export;
 #[path = "../../../crates/export_listing/export_listing.rs"]
 mod export_listing;
+#[path = "../../../crates/export_writer/export_writer.rs"]
+mod export_writer;
 
 use export::{Answer, Summary};
 use export_listing::Labelled;
@@ -17,15 +19,16 @@ use second::steps_case::StepsCase;
 use second::table::{copy, cut, locate, pieces, Table, Written};
 use second::table_case::{summary_numbers, TableCase, COPY, CUT, LOCATE, PIECES};
 use second::words::{byte_memory, dataset_bytes, memory};
-use second::{json_answers, json_random, listing_random, reading_answers, reading_random, steps_answers, steps_random, table_random};
+use second::writer::{reads_back, write};
+use second::{json_answers, json_random, listing_random, reading_answers, reading_random, steps_answers, steps_random, table_random, writing_random};
 use std::process::ExitCode;
 use std::time::{Duration, Instant};
 
 /// A kind of case: a fresh one is answered by both programs, and handed back where they disagree.
 type Compare = fn(&mut Rng) -> Result<(), Case>;
 
-const KINDS: [(&str, Compare); 5] =
-    [("json", json), ("reading", reading), ("tables", tables), ("listings", listings), ("steps", steps)];
+const KINDS: [(&str, Compare); 6] =
+    [("json", json), ("reading", reading), ("tables", tables), ("listings", listings), ("writing", writing), ("steps", steps)];
 
 fn agree(same: bool, case: Case) -> Result<(), Case> {
     if same {
@@ -127,6 +130,17 @@ fn listings(rng: &mut Rng) -> Result<(), Case> {
         (refusal, present, part) == (expected.refusal, u64::from(expected.present), Some(expected.part))
     };
     agree(same, case.frame())
+}
+
+/// The metadata of a table by both, with the lent output afterwards; where it was written, it reads back as the table.
+fn writing(rng: &mut Rng) -> Result<(), Case> {
+    let frame = writing_random::random_case(rng);
+    let case = ListingCase::read(&frame).expect("a case that was just made");
+    let (table, text) = (case.table(), &case.metadata);
+    let (mut one, mut other) = (byte_memory(case.number), byte_memory(case.number));
+    let expected = write(&table, text, &mut one);
+    let same = answer(expected) == lent(&table).metadata(text, &mut other) && one == other;
+    agree(same && (expected.refusal != 0 || reads_back(&table, text, &other[..expected.count as usize])), frame)
 }
 
 /// Cuts and copies one after the other, refused ones included, by both.

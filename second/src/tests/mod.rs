@@ -11,6 +11,8 @@ mod steps;
 mod steps_cases;
 mod table;
 mod table_cases;
+mod writer;
+mod writing_cases;
 
 use crate::reader::read;
 use crate::steps::State;

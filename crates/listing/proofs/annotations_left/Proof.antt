@@ -3,9 +3,9 @@ use lib.ListN.{length}
 use Prim.Native.Nat.{_-_}
 use mathlib.Core.Path.{_≡_, refl}
 use Rattle.table.specs.Rows.{annotationAt, rest, flat}
-use Rattle.listing_text.specs.Left.{leftAfter}
+use Rattle.output.specs.Left.{leftAfter}
 use Rattle.listing.specs.Lines.{annotationLine}
-use Rattle.listing.proofs.RowLines.{count-end, line-over, line-on}
+use Rattle.output.proofs.RowLines.{count-end, line-over, line-on}
 use Rattle.listing.proofs.annotations_left.Statement.{statement}
 use Rattle.listing.proofs.annotations_left.Tie as tie
 

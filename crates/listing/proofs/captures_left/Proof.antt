@@ -2,8 +2,8 @@ use borrow.Author.Needs.{needs}
 use lib.ListN.{length}
 use Prim.Native.Nat.{_-_}
 use mathlib.Core.Path.{_≡_, refl}
-use Rattle.listing.proofs.RowLines.{count-end, count-over, count-on}
-use Rattle.listing_text.specs.Left.{leftAfter}
+use Rattle.output.proofs.RowLines.{count-end, count-over, count-on}
+use Rattle.output.specs.Left.{leftAfter}
 use Rattle.listing.specs.Lines.{captureLine}
 use Rattle.table.specs.Rows.{captureAt, rest, flat}
 use Rattle.listing.proofs.captures_left.Statement.{statement}

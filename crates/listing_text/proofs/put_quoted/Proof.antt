@@ -1,6 +1,6 @@
 use native.Mathlib.Omega.{arith}
 use Rattle.listing_text.proofs.ShownLaws.{quoted-parts}
-use Rattle.listing_text.proofs.Writing.{writes-none, writes-end, writes-long, byte-inside, byte-sum, writes-byte, next-from, next-room, next-sum, writes-next}
+use Rattle.output.proofs.Writing.{writes-none, writes-end, writes-long, byte-inside, byte-sum, writes-byte, next-from, next-room, next-sum, writes-next}
 use borrow.Author.Needs.{needs}
 use Rattle.listing_text.proofs.put_quoted.Statement.{statement}
 use Rattle.listing_text.proofs.put_quoted.Tie as tie

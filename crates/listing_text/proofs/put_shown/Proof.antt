@@ -2,7 +2,7 @@ use borrow.Author.Needs.{needs}
 use native.Mathlib.Omega.{arith}
 use lib.ListN.{length}
 use Rattle.listing_text.proofs.ShownLaws.{shown-parts, shown-on, shown-close}
-use Rattle.listing_text.proofs.Writing.{Writes, writes-none, writes-end, writes-long, next-from, next-room, next-sum, writes-next}
+use Rattle.output.proofs.Writing.{Writes, writes-none, writes-end, writes-long, next-from, next-room, next-sum, writes-next}
 use Rattle.json_strings.proofs.DecodeLaws.{streamed-next, streamed-end, shorter}
 use Rattle.listing_text.specs.Shown.{shownByte}
 use Rattle.table.specs.Rows.{flat}

@@ -1,6 +1,6 @@
 use Rattle.listing_text.specs.Shown.{shownText}
-use Rattle.listing_text.proofs.LeftLaws.{put-over, put-room}
-use Rattle.listing_text.proofs.Writing.{put-some}
+use Rattle.output.proofs.LeftLaws.{put-over, put-room}
+use Rattle.output.proofs.Writing.{put-some}
 use borrow.Author.Needs.{needs}
 use Rattle.listing_text.proofs.put_text.Statement.{statement}
 use Rattle.listing_text.proofs.put_text.Tie as tie

@@ -4,7 +4,7 @@ use mathlib.Core.Path.{_≡_}
 use Rattle.json_strings.proofs.DecodeLaws.{streamed-next, streamed-end, shorter}
 use Rattle.json_strings.specs.Stream.{stream}
 use Rattle.table.specs.Rows.{flat}
-use Rattle.listing_text.specs.Left.{leftAfter}
+use Rattle.output.specs.Left.{leftAfter}
 use Rattle.listing_text.specs.Shown.{shownByte, quoted}
 use Rattle.listing_text.proofs.ShownLaws.{quotes-over, text-begin, text-end, text-over, text-on}
 use Rattle.listing_text.proofs.quoted_left.Statement.{statement}

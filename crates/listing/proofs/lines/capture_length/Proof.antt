@@ -3,17 +3,17 @@ use borrow.Author.Needs.{needs}
 use Rattle.listing.proofs.lines.capture_length.Statement.{statement}
 use Rattle.listing.proofs.lines.capture_length.Tie as tie
 
-number-length-requires : tie.Need-number-length-requires
-number-length-requires c κs = search needs
+decimal-length-requires : tie.Need-decimal-length-requires
+decimal-length-requires c κs = search needs
 
-number-length-requires-2 : tie.Need-number-length-requires-2
-number-length-requires-2 c κs = search needs
+decimal-length-requires-2 : tie.Need-decimal-length-requires-2
+decimal-length-requires-2 c κs = search needs
 
-number-length-requires-3 : tie.Need-number-length-requires-3
-number-length-requires-3 c κs = search needs
+decimal-length-requires-3 : tie.Need-decimal-length-requires-3
+decimal-length-requires-3 c κs = search needs
 
-number-length-requires-4 : tie.Need-number-length-requires-4
-number-length-requires-4 c κs = search needs
+decimal-length-requires-4 : tie.Need-decimal-length-requires-4
+decimal-length-requires-4 c κs = search needs
 
 add-result : tie.Need-add-result
 add-result c = search needs
@@ -28,16 +28,16 @@ add-result-4 : tie.Need-add-result-4
 add-result-4 c = search needs
 
 returns : tie.Need-returns
-returns c = capture-long _ _ _ _ _ ((c .before .before .before .number-length .ensures) .0) ((c .before .before .number-length2 .ensures) .0) ((c .before .number-length3 .ensures) .0) ((c .number-length4 .ensures) .0)
+returns c = capture-long _ _ _ _ _ ((c .before .before .before .decimal-length .ensures) .0) ((c .before .before .decimal-length2 .ensures) .0) ((c .before .decimal-length3 .ensures) .0) ((c .decimal-length4 .ensures) .0)
 
 pub capture-length-spec : {M : Type 1} → statement M
 capture-length-spec =
     tie.close
     (tie.spec
-    number-length-requires
-    number-length-requires-2
-    number-length-requires-3
-    number-length-requires-4
+    decimal-length-requires
+    decimal-length-requires-2
+    decimal-length-requires-3
+    decimal-length-requires-4
     add-result
     add-result-2
     add-result-3

@@ -1,42 +1,37 @@
 use native.Mathlib.Omega.{arith}
 use Rattle.sigmf_datatypes.specs.Datatypes.{datatypeName}
-use Rattle.listing_text.proofs.Writing.{writes-end, first-room, writes-first, next-from, next-room, next-sum, writes-next, pair-parts}
+use Rattle.output.proofs.Writing.{writes-end, first-put, next-from, put-sum, next-put, pair-parts}
 use borrow.Author.Needs.{needs}
 use Rattle.listing.proofs.lines.put_datatype.Statement.{statement}
 use Rattle.listing.proofs.lines.put_datatype.Tie as tie
 
 put-word-requires : tie.Need-put-word-requires
-put-word-requires c κs =
-    let entry = c .before .before .before in
-    first-room (entry .args .out .now) (pair-parts (entry .args .word .now) (datatypeName (entry .args .code))) (entry .pre)
+put-word-requires c κs = search needs
 
-sub-put-name : tie.Need-sub-put-name
-sub-put-name c =
+sub-put-datatype-name : tie.Need-sub-put-datatype-name
+sub-put-datatype-name c =
     let entry = c .before .before .before .before .before .before in
-    let S1 = writes-first (entry .args .out .now) (pair-parts (entry .args .word .now) (datatypeName (entry .args .code))) (entry .pre) (c .before .before .put-word .ensures) in
+    let S1 = first-put (entry .args .out .now) (pair-parts (entry .args .word .now) (datatypeName (entry .args .code))) (entry .pre) (c .before .before .put-word .ensures) in
     next-from S1
 
-part-put-name-start : tie.Need-part-put-name-start
-part-put-name-start c =
+part-put-datatype-name-start : tie.Need-part-put-datatype-name-start
+part-put-datatype-name-start c =
     let entry = c .before .before .before .before .before .before in
-    let S1 = writes-first (entry .args .out .now) (pair-parts (entry .args .word .now) (datatypeName (entry .args .code))) (entry .pre) (c .before .before .put-word .ensures) in
+    let S1 = first-put (entry .args .out .now) (pair-parts (entry .args .word .now) (datatypeName (entry .args .code))) (entry .pre) (c .before .before .put-word .ensures) in
     next-from S1
 
-part-put-name-end : tie.Need-part-put-name-end
-part-put-name-end c = search needs
+part-put-datatype-name-end : tie.Need-part-put-datatype-name-end
+part-put-datatype-name-end c = search needs
 
-put-name-requires : tie.Need-put-name-requires
-put-name-requires c κs =
-    let entry = c .before .before .before .before .before .before .before in
-    let S1 = writes-first (entry .args .out .now) (pair-parts (entry .args .word .now) (datatypeName (entry .args .code))) (entry .pre) (c .before .before .before .put-word .ensures) in
-    next-room S1
+put-datatype-name-requires : tie.Need-put-datatype-name-requires
+put-datatype-name-requires c κs = search needs
 
 add-result : tie.Need-add-result
 add-result c =
     let entry = c .before .before .before .before .before .before .before .before .before .before in
-    let S1 = writes-first (entry .args .out .now) (pair-parts (entry .args .word .now) (datatypeName (entry .args .code))) (entry .pre) (c .before .before .before .before .before .before .put-word .ensures) in
+    let S1 = first-put (entry .args .out .now) (pair-parts (entry .args .word .now) (datatypeName (entry .args .code))) (entry .pre) (c .before .before .before .before .before .before .put-word .ensures) in
     let g = entry .good in
-    omega (arith, next-sum S1 (c .before .before .put-name .ensures))
+    omega (arith, put-sum S1 (c .before .before .put-datatype-name .ensures))
 
 same-length : tie.Need-same-length
 same-length c = search needs
@@ -44,8 +39,8 @@ same-length c = search needs
 returns : tie.Need-returns
 returns c =
     let entry = c .before .before .before .before .before .before .before .before .before .before in
-    let S1 = writes-first (entry .args .out .now) (pair-parts (entry .args .word .now) (datatypeName (entry .args .code))) (entry .pre) (c .before .before .before .before .before .before .put-word .ensures) in
-    let S2 = writes-next S1 (c .before .before .put-name .ensures) in
+    let S1 = first-put (entry .args .out .now) (pair-parts (entry .args .word .now) (datatypeName (entry .args .code))) (entry .pre) (c .before .before .before .before .before .before .put-word .ensures) in
+    let S2 = next-put S1 (c .before .before .put-datatype-name .ensures) in
     writes-end S2
 
 pub put-datatype-spec : {M : Type 1} → statement M
@@ -53,10 +48,10 @@ put-datatype-spec =
     tie.close
     (tie.spec
     put-word-requires
-    sub-put-name
-    part-put-name-start
-    part-put-name-end
-    put-name-requires
+    sub-put-datatype-name
+    part-put-datatype-name-start
+    part-put-datatype-name-end
+    put-datatype-name-requires
     add-result
     same-length
     returns)

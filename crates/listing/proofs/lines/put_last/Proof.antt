@@ -1,5 +1,5 @@
 use native.Mathlib.Omega.{arith}
-use Rattle.listing_text.proofs.Writing.{writes-none, writes-end, writes-long, byte-inside, byte-sum, writes-byte, next-from, next-room, next-sum, writes-next, put-all}
+use Rattle.output.proofs.Writing.{writes-none, writes-end, writes-long, byte-inside, byte-sum, writes-byte, next-from, put-sum, next-put}
 use Rattle.listing.proofs.LineLaws.{last-parts}
 use borrow.Author.Needs.{needs}
 use Rattle.listing.proofs.lines.put_last.Statement.{statement}
@@ -37,14 +37,14 @@ add-n c =
     let S0 = writes-none (entry .args .out .now) (last-parts (entry .args .s .now) (entry .args .p)) (entry .pre) in
     let S1 = writes-byte S0 in
     let g = entry .good in
-    omega (arith, next-sum S1 (put-all _ _ (next-room S1) (c .before .before .put-text .ensures)))
+    omega (arith, put-sum S1 (c .before .before .put-text .ensures))
 
 slice-write-out-2 : tie.Need-slice-write-out-2
 slice-write-out-2 c =
     let entry = c .before .before .before .before .before .before in
     let S0 = writes-none (entry .args .out .now) (last-parts (entry .args .s .now) (entry .args .p)) (entry .pre) in
     let S1 = writes-byte S0 in
-    let S2 = writes-next S1 (put-all _ _ (next-room S1) (c .before .before .put-text .ensures)) in
+    let S2 = next-put S1 (c .before .before .put-text .ensures) in
     byte-inside S2
 
 add-result : tie.Need-add-result
@@ -52,7 +52,7 @@ add-result c =
     let entry = c .before .before .before .before .before .before in
     let S0 = writes-none (entry .args .out .now) (last-parts (entry .args .s .now) (entry .args .p)) (entry .pre) in
     let S1 = writes-byte S0 in
-    let S2 = writes-next S1 (put-all _ _ (next-room S1) (c .before .before .put-text .ensures)) in
+    let S2 = next-put S1 (c .before .before .put-text .ensures) in
     let g = entry .good in
     omega (arith, byte-sum S2)
 
@@ -61,7 +61,7 @@ same-length c =
     let entry = c .before .before .before .before .before .before in
     let S0 = writes-none (entry .args .out .now) (last-parts (entry .args .s .now) (entry .args .p)) (entry .pre) in
     let S1 = writes-byte S0 in
-    let S2 = writes-next S1 (put-all _ _ (next-room S1) (c .before .before .put-text .ensures)) in
+    let S2 = next-put S1 (c .before .before .put-text .ensures) in
     let S3 = writes-byte S2 in
     writes-long S3
 
@@ -70,7 +70,7 @@ returns c =
     let entry = c .before .before .before .before .before .before in
     let S0 = writes-none (entry .args .out .now) (last-parts (entry .args .s .now) (entry .args .p)) (entry .pre) in
     let S1 = writes-byte S0 in
-    let S2 = writes-next S1 (put-all _ _ (next-room S1) (c .before .before .put-text .ensures)) in
+    let S2 = next-put S1 (c .before .before .put-text .ensures) in
     let S3 = writes-byte S2 in
     writes-end S3
 

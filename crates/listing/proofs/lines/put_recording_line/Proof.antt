@@ -1,5 +1,5 @@
 use native.Mathlib.Omega.{arith}
-use Rattle.listing_text.proofs.Writing.{writes-end, writes-long, byte-inside, byte-sum, writes-byte, first-room, writes-first, next-from, next-room, next-sum, writes-next}
+use Rattle.output.proofs.Writing.{writes-end, writes-long, byte-inside, byte-sum, writes-byte, first-room, writes-first, next-from, next-room, next-sum, writes-next, put-sum, next-put}
 use Rattle.listing.proofs.LineLaws.{recording-parts}
 use borrow.Author.Needs.{needs}
 use Rattle.listing.proofs.lines.put_recording_line.Statement.{statement}
@@ -68,11 +68,7 @@ slice-aggregate-put-field : tie.Need-slice-aggregate-put-field
 slice-aggregate-put-field c = search needs
 
 put-field-requires : tie.Need-put-field-requires
-put-field-requires c κs =
-    let entry = c .before .before .before .before .before .before .before .before .before .before .before .before .before .before in
-    let S1 = writes-first (entry .args .out .now) (recording-parts (entry .args .t)) (entry .pre) (c .before .before .before .before .before .before .before .before .before .before .put-datatype .ensures) in
-    let S2 = writes-next S1 (c .before .before .before .before .put-two .ensures) in
-    next-room S2
+put-field-requires c κs = search needs
 
 add-c : tie.Need-add-c
 add-c c =
@@ -80,14 +76,14 @@ add-c c =
     let S1 = writes-first (entry .args .out .now) (recording-parts (entry .args .t)) (entry .pre) (c .before .before .before .before .before .before .before .before .before .before .before .before .before .put-datatype .ensures) in
     let S2 = writes-next S1 (c .before .before .before .before .before .before .before .put-two .ensures) in
     let g = entry .good in
-    omega (arith, next-sum S2 (c .before .before .put-field .ensures))
+    omega (arith, put-sum S2 (c .before .before .put-field .ensures))
 
 slice-write-out : tie.Need-slice-write-out
 slice-write-out c =
     let entry = c .before .before .before .before .before .before .before .before .before .before .before .before .before .before .before .before .before in
     let S1 = writes-first (entry .args .out .now) (recording-parts (entry .args .t)) (entry .pre) (c .before .before .before .before .before .before .before .before .before .before .before .before .before .put-datatype .ensures) in
     let S2 = writes-next S1 (c .before .before .before .before .before .before .before .put-two .ensures) in
-    let S3 = writes-next S2 (c .before .before .put-field .ensures) in
+    let S3 = next-put S2 (c .before .before .put-field .ensures) in
     byte-inside S3
 
 add-result : tie.Need-add-result
@@ -95,7 +91,7 @@ add-result c =
     let entry = c .before .before .before .before .before .before .before .before .before .before .before .before .before .before .before .before .before in
     let S1 = writes-first (entry .args .out .now) (recording-parts (entry .args .t)) (entry .pre) (c .before .before .before .before .before .before .before .before .before .before .before .before .before .put-datatype .ensures) in
     let S2 = writes-next S1 (c .before .before .before .before .before .before .before .put-two .ensures) in
-    let S3 = writes-next S2 (c .before .before .put-field .ensures) in
+    let S3 = next-put S2 (c .before .before .put-field .ensures) in
     let g = entry .good in
     omega (arith, byte-sum S3)
 
@@ -104,7 +100,7 @@ same-length c =
     let entry = c .before .before .before .before .before .before .before .before .before .before .before .before .before .before .before .before .before in
     let S1 = writes-first (entry .args .out .now) (recording-parts (entry .args .t)) (entry .pre) (c .before .before .before .before .before .before .before .before .before .before .before .before .before .put-datatype .ensures) in
     let S2 = writes-next S1 (c .before .before .before .before .before .before .before .put-two .ensures) in
-    let S3 = writes-next S2 (c .before .before .put-field .ensures) in
+    let S3 = next-put S2 (c .before .before .put-field .ensures) in
     let S4 = writes-byte S3 in
     writes-long S4
 
@@ -113,7 +109,7 @@ returns c =
     let entry = c .before .before .before .before .before .before .before .before .before .before .before .before .before .before .before .before .before in
     let S1 = writes-first (entry .args .out .now) (recording-parts (entry .args .t)) (entry .pre) (c .before .before .before .before .before .before .before .before .before .before .before .before .before .put-datatype .ensures) in
     let S2 = writes-next S1 (c .before .before .before .before .before .before .before .put-two .ensures) in
-    let S3 = writes-next S2 (c .before .before .put-field .ensures) in
+    let S3 = next-put S2 (c .before .before .put-field .ensures) in
     let S4 = writes-byte S3 in
     writes-end S4
 

@@ -6,14 +6,14 @@ use Rattle.listing.proofs.lines.recording_length.Tie as tie
 name-length-requires : tie.Need-name-length-requires
 name-length-requires c κs = search needs
 
-number-length-requires : tie.Need-number-length-requires
-number-length-requires c κs = search needs
+decimal-length-requires : tie.Need-decimal-length-requires
+decimal-length-requires c κs = search needs
 
-number-length-requires-2 : tie.Need-number-length-requires-2
-number-length-requires-2 c κs = search needs
+decimal-length-requires-2 : tie.Need-decimal-length-requires-2
+decimal-length-requires-2 c κs = search needs
 
-number-length-requires-3 : tie.Need-number-length-requires-3
-number-length-requires-3 c κs = search needs
+decimal-length-requires-3 : tie.Need-decimal-length-requires-3
+decimal-length-requires-3 c κs = search needs
 
 add-result : tie.Need-add-result
 add-result c = search needs
@@ -28,16 +28,16 @@ add-result-4 : tie.Need-add-result-4
 add-result-4 c = search needs
 
 returns : tie.Need-returns
-returns c = recording-long _ _ _ _ _ ((c .before .before .before .name-length .ensures) .0) ((c .before .before .number-length .ensures) .0) ((c .before .number-length2 .ensures) .0) ((c .number-length3 .ensures) .0)
+returns c = recording-long _ _ _ _ _ ((c .before .before .before .name-length .ensures) .0) ((c .before .before .decimal-length .ensures) .0) ((c .before .decimal-length2 .ensures) .0) ((c .decimal-length3 .ensures) .0)
 
 pub recording-length-spec : {M : Type 1} → statement M
 recording-length-spec =
     tie.close
     (tie.spec
     name-length-requires
-    number-length-requires
-    number-length-requires-2
-    number-length-requires-3
+    decimal-length-requires
+    decimal-length-requires-2
+    decimal-length-requires-3
     add-result
     add-result-2
     add-result-3

@@ -1,0 +1,15 @@
+pub mod Derivations
+pub mod Numbers
+pub mod Pieces
+pub mod Entries
+pub mod Plan
+pub mod Objects
+pub mod Whole
+pub mod TableBack
+pub mod Datatypes
+pub mod FromTable
+pub mod Laid
+pub mod Writable
+pub mod TextReads
+pub mod Again
+pub mod Theorem

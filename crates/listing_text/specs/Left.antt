@@ -1,9 +1,0 @@
--- What a number of bytes leaves of a room.
-use Prim.Native.Nat.{ℕ, _-_}
-use mathlib.Core.Bool.{cond}
-use lib.Dec.{leb}
-use Rattle.listing_text.specs.declared.Left.{Left}
-use Rattle.listing_text.specs.declared.Left.the-variants.{Bytes, Over}
-
-unfoldable pub leftAfter : ℕ → ℕ → Left
-leftAfter room n = cond (leb n room) (Bytes (room - n)) Over

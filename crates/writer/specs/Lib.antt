@@ -1,0 +1,3 @@
+pub mod Metadata
+pub mod Writer
+pub mod TextParts
