@@ -6,16 +6,11 @@ use crate::field_random::random_case;
 use crate::frames::Case;
 use crate::reading_lists::*;
 use crate::recording_random::PLACES;
-use crate::rng::Rng;
+use crate::rng::filled_up;
 
 /// The fixed cases, then random ones up to `count`.
 pub fn field_cases(seed: u64, count: usize) -> Vec<Case> {
-    let mut list = fixed_cases();
-    let mut rng = Rng::new(seed);
-    while list.len() < count {
-        list.push(random_case(&mut rng));
-    }
-    list
+    filled_up(fixed_cases(), seed, count, random_case)
 }
 
 /// Every fixed case.

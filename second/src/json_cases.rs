@@ -2,16 +2,11 @@
 
 use crate::frames::Case;
 use crate::json_random::random_case;
-use crate::rng::Rng;
+use crate::rng::filled_up;
 
 /// The fixed cases, then random ones up to `count`.
 pub fn json_cases(seed: u64, count: usize) -> Vec<Case> {
-    let mut list = fixed_cases();
-    let mut rng = Rng::new(seed);
-    while list.len() < count {
-        list.push(random_case(&mut rng));
-    }
-    list
+    filled_up(fixed_cases(), seed, count, random_case)
 }
 
 /// Every fixed case.

@@ -8,7 +8,7 @@ use crate::listing_case::{ListingCase, LISTING, LOOKUP};
 use crate::listing_labels::hostile_labels;
 use crate::listing_random::{asked, labelled, random_case, CHANGES};
 use crate::reading_cases::{meta, G};
-use crate::rng::Rng;
+use crate::rng::{filled_up, Rng};
 use crate::steps::State;
 use crate::table_cases::EXAMPLE;
 use crate::table_forged::FORGERIES;
@@ -16,12 +16,7 @@ use crate::table_random::{cut_of, open};
 
 /// The fixed cases, then random ones up to `count`.
 pub fn listing_cases(seed: u64, count: usize) -> Vec<Case> {
-    let mut list = fixed_cases();
-    let mut rng = Rng::new(seed);
-    while list.len() < count {
-        list.push(random_case(&mut rng));
-    }
-    list
+    filled_up(fixed_cases(), seed, count, random_case)
 }
 
 /// Every fixed case.

@@ -9,17 +9,12 @@ use crate::reading_faults::{Fault, FAULTS};
 use crate::reading_lists::*;
 use crate::reading_random::{faulty, random_case};
 use crate::recording_random::PLACES;
-use crate::rng::Rng;
+use crate::rng::{filled_up, Rng};
 use crate::table_cases::EXAMPLE;
 
 /// The fixed cases, then random ones up to `count`.
 pub fn reading_cases(seed: u64, count: usize) -> Vec<Case> {
-    let mut list = fixed_cases();
-    let mut rng = Rng::new(seed);
-    while list.len() < count {
-        list.push(random_case(&mut rng));
-    }
-    list.iter().map(ReadingCase::frame).collect()
+    filled_up(fixed_cases(), seed, count, random_case).iter().map(ReadingCase::frame).collect()
 }
 
 /// Every fixed case.

@@ -38,3 +38,12 @@ impl Rng {
         items[self.below(items.len())]
     }
 }
+
+/// The list, then random ones up to `count`.
+pub fn filled_up<T>(mut list: Vec<T>, seed: u64, count: usize, random: fn(&mut Rng) -> T) -> Vec<T> {
+    let mut rng = Rng::new(seed);
+    while list.len() < count {
+        list.push(random(&mut rng));
+    }
+    list
+}

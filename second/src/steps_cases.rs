@@ -2,7 +2,7 @@
 
 use crate::frames::Case;
 use crate::reading_cases::{meta, G};
-use crate::rng::Rng;
+use crate::rng::{filled_up, Rng};
 use crate::steps::{State, Step};
 use crate::steps_case::StepsCase;
 use crate::steps_random::random_case;
@@ -12,12 +12,7 @@ use crate::table_random::{cut_of, needs, open};
 
 /// The fixed cases, then random ones up to `count`.
 pub fn steps_cases(seed: u64, count: usize) -> Vec<Case> {
-    let mut list = fixed_cases();
-    let mut rng = Rng::new(seed);
-    while list.len() < count {
-        list.push(random_case(&mut rng));
-    }
-    list.iter().map(StepsCase::frame).collect()
+    filled_up(fixed_cases(), seed, count, random_case).iter().map(StepsCase::frame).collect()
 }
 
 /// Every fixed case.

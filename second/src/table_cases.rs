@@ -1,7 +1,7 @@
 //! Fixed edge cases about tables, and the whole stream with random ones after.
 
 use crate::frames::Case;
-use crate::rng::Rng;
+use crate::rng::{filled_up, Rng};
 use crate::steps::State;
 use crate::table_case::{TableCase, BYTES_MAX, COPY, CUT, LOCATE, PIECES, WELL_FORMED};
 use crate::table_forged::FORGERIES;
@@ -9,12 +9,7 @@ use crate::table_random::{case_of, cut_of, open, random_case};
 
 /// The fixed cases, then random ones up to `count`.
 pub fn table_cases(seed: u64, count: usize) -> Vec<Case> {
-    let mut list = fixed_cases();
-    let mut rng = Rng::new(seed);
-    while list.len() < count {
-        list.push(random_case(&mut rng));
-    }
-    list.iter().map(TableCase::frame).collect()
+    filled_up(fixed_cases(), seed, count, random_case).iter().map(TableCase::frame).collect()
 }
 
 /// Every fixed case.

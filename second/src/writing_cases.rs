@@ -10,7 +10,7 @@ use crate::listing_cases::one_label;
 use crate::listing_labels::hostile_labels;
 use crate::listing_random::{labelled, CHANGES};
 use crate::reading_cases::{meta, G};
-use crate::rng::Rng;
+use crate::rng::{filled_up, Rng};
 use crate::steps::State;
 use crate::table_cases::EXAMPLE;
 use crate::table_forged::{settle, FORGERIES};
@@ -20,12 +20,7 @@ use crate::writing_random::{random_case, rate_at_end, stretch, RATE_CHANGES};
 
 /// The fixed cases, then random ones up to `count`.
 pub fn writing_cases(seed: u64, count: usize) -> Vec<Case> {
-    let mut list = fixed_cases();
-    let mut rng = Rng::new(seed);
-    while list.len() < count {
-        list.push(random_case(&mut rng));
-    }
-    list
+    filled_up(fixed_cases(), seed, count, random_case)
 }
 
 /// Every fixed case.
