@@ -1,8 +1,7 @@
 // Times the copy of a recording's samples against memcpy of the same runs of bytes.
 use crate::export::{Summary, Table};
-use crate::median;
+use crate::shared::{median, ratio, repeats_in, run};
 use std::hint::black_box;
-use std::time::Instant;
 
 // The table of a recording of complex 16-bit samples, with equal captures that have a header of 16 bytes each.
 pub struct Equal {
@@ -77,15 +76,6 @@ impl Recording {
     }
 }
 
-// Nanoseconds of one run.
-fn run(copy: impl Fn(&mut [u8]) -> u64, out: &mut [u8], repeats: u32) -> f64 {
-    let start = Instant::now();
-    for _ in 0..repeats {
-        black_box(copy(black_box(&mut *out)));
-    }
-    start.elapsed().as_nanos() as f64 / f64::from(repeats)
-}
-
 // Prints the copy's speed and its time over memcpy's, the two interleaved.
 pub fn print_copies(rounds: usize) {
     println!("\nThe copy's speed, and its time over that of memcpy (1 is as fast)\n");
@@ -95,15 +85,15 @@ pub fn print_copies(rounds: usize) {
         let (mut out, mut other) = (vec![1; length], vec![2; length]);
         assert_eq!((r.copy(&mut out), r.memcpy(&mut other)), (length as u64, length as u64));
         assert_eq!(out, other);
-        let turns = |once: f64| (TURN / once).max(1.0) as u32;
-        let ours = turns(run(|o| r.copy(o), &mut out, 3));
-        let theirs = turns(run(|o| r.memcpy(o), &mut out, 3));
-        let mut times = Vec::new();
+        let ours = repeats_in(TURN, &mut || r.copy(black_box(&mut out)));
+        let theirs = repeats_in(TURN, &mut || r.memcpy(black_box(&mut out)));
+        let mut times: [Vec<f64>; 2] = Default::default();
         for _ in 0..rounds {
-            times.push((run(|o| r.copy(o), &mut out, ours), run(|o| r.memcpy(o), &mut out, theirs)));
+            times[0].push(run(ours, &mut || r.copy(black_box(&mut out))));
+            times[1].push(run(theirs, &mut || r.memcpy(black_box(&mut out))));
         }
-        let speed = 1e3 * length as f64 / median(times.iter().map(|t| t.0).collect());
-        let ratio = median(times.iter().map(|t| t.0 / t.1).collect());
+        let speed = 1e3 * length as f64 / median(times[0].clone());
+        let ratio = ratio(&times[0], &times[1]);
         println!("{:12} {:>8} {speed:>8.0} {ratio:>8.2}", r.name, r.pieces.len());
     }
 }

@@ -7,30 +7,22 @@ mod export;
 #[path = "../../crates/export_writer/export_writer.rs"]
 mod export_writer;
 mod rows;
+mod shared;
 mod texts;
 mod typed;
 mod writes;
 
 use export::{json_judge, recording_read};
-use std::cell::RefCell;
+use shared::{digits, median, ratio, repeats_in, rounds, run, DATASET, ROWS, SIZES, TURN};
 use std::hint::black_box;
-use std::time::Instant;
 use texts::{COSTLY, KINDS, ORDINARY};
 
 type Parser = fn(&[u8]) -> bool;
-
-const SIZES: [usize; 3] = [1024, 8192, 61440];
-const ROUNDS: usize = 31;
-// How long one parser runs at a time, in nanoseconds.
-const TURN: f64 = 1e6;
 
 // The judge is the first. Only recordings have the last two, the typed parse and the reader.
 const PARSERS: [Parser; 5] = [judge, value, ignored, recording, read];
 const TYPED: usize = 3;
 const READER: usize = 4;
-
-// Long enough for every recording here, and whole samples of four bytes.
-const DATASET: u64 = 1 << 40;
 
 fn judge(text: &[u8]) -> bool {
     json_judge(text) == 0
@@ -50,13 +42,6 @@ fn recording(text: &[u8]) -> bool {
     serde_json::from_slice::<typed::Recording>(text)
         .map(|r| drop(black_box(r)))
         .is_ok()
-}
-
-// The rows that the reader fills, those of captures and those of annotations.
-const ROOM: usize = 4096;
-
-thread_local! {
-    static ROWS: RefCell<[[u64; ROOM]; 2]> = const { RefCell::new([[0; ROOM]; 2]) };
 }
 
 fn read(text: &[u8]) -> bool {
@@ -89,8 +74,7 @@ impl Case {
                 KINDS[kind].name,
                 text.len()
             );
-            let once = run(PARSERS[p], &text, 3);
-            repeats[p] = (TURN / once).max(1.0) as u32;
+            repeats[p] = repeats_in(TURN, &mut || PARSERS[p](black_box(&text)));
         }
         Case {
             text,
@@ -104,7 +88,7 @@ impl Case {
     fn round(&mut self, round: usize) {
         for i in 0..self.parsers {
             let p = (i + round) % self.parsers;
-            let time = run(PARSERS[p], &self.text, self.repeats[p]);
+            let time = run(self.repeats[p], &mut || PARSERS[p](black_box(&self.text)));
             self.times[p].push(time);
         }
     }
@@ -116,31 +100,6 @@ impl Case {
             .map(|t| t / self.text.len() as f64)
             .collect()
     }
-}
-
-// Nanoseconds of one run.
-fn run(parser: Parser, text: &[u8], repeats: u32) -> f64 {
-    let start = Instant::now();
-    for _ in 0..repeats {
-        black_box(parser(black_box(text)));
-    }
-    start.elapsed().as_nanos() as f64 / repeats as f64
-}
-
-fn median(mut v: Vec<f64>) -> f64 {
-    v.sort_by(f64::total_cmp);
-    v[v.len() / 2]
-}
-
-// The median of the ratios within each round, so that a slow moment of the machine hits both.
-fn ratio(a: &[f64], b: &[f64]) -> f64 {
-    median(a.iter().zip(b).map(|(x, y)| x / y).collect())
-}
-
-// Three digits that count.
-fn digits(x: f64) -> String {
-    let places = (2.0 - x.log10().floor()).clamp(0.0, 5.0) as usize;
-    format!("{x:.places$}")
 }
 
 fn print_speeds(cases: &[Vec<Case>]) {
@@ -220,10 +179,7 @@ fn print_worst(cases: &[Vec<Case>]) {
 }
 
 fn main() {
-    let rounds = match std::env::args().nth(1) {
-        Some(word) => word.parse().expect("usage: bench [ROUNDS]"),
-        None => ROUNDS,
-    };
+    let rounds = rounds();
     // The archive holds the judge that is meant: a good text, no JSON, and a name that stands twice.
     assert_eq!(
         [

@@ -1,12 +1,9 @@
 // Times the place of a sample and the pieces of all samples, by the row of the table.
 use crate::copies::{Equal, SAMPLES};
-use crate::{digits, median};
+use crate::shared::{digits, median, run, TURN};
 use std::hint::black_box;
-use std::time::Instant;
 
 const ROWS: [u64; 3] = [16, 128, 1024];
-// How long one side runs at a time, in nanoseconds.
-const TURN: f64 = 1e6;
 
 // What a table of some rows is asked, and the times of each question: for each round, the nanoseconds of one run by the row.
 struct Asked {
@@ -33,11 +30,7 @@ impl Asked {
         for question in 0..2 {
             // Some four nanoseconds a row.
             let repeats = (TURN / (4.0 * self.rows as f64)) as u32;
-            let start = Instant::now();
-            for _ in 0..repeats {
-                black_box(self.ask(black_box(question)));
-            }
-            let once = start.elapsed().as_nanos() as f64 / f64::from(repeats);
+            let once = run(repeats, &mut || self.ask(black_box(question)));
             self.times[question].push(once / self.rows as f64);
         }
     }

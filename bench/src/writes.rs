@@ -1,9 +1,8 @@
 // Times the metadata of a table against serde_json's text of the same recording, kept as structs.
 use crate::export::{recording_read, Summary, Table};
-use crate::{digits, median, ratio, DATASET, SIZES, TURN};
+use crate::shared::{digits, median, ratio, repeats_in, run, DATASET, SIZES, TURN};
 use serde::Serialize;
 use std::hint::black_box;
-use std::time::Instant;
 
 // A recording with the members of the written metadata, in their order. Labels are decoded.
 #[derive(Serialize)]
@@ -126,9 +125,7 @@ impl Case {
             case.out.fill(0);
             assert_eq!(case.write(w), case.text.len());
             assert_eq!(case.out[..case.text.len()], case.text, "writer {w} of {}", kind.name);
-            // The quickest of a few, so that a busy moment does not make the turns short.
-            let once = (0..5).map(|_| case.run(w, 3)).fold(f64::MAX, f64::min);
-            case.repeats[w] = (TURN / once).max(1.0) as u32;
+            case.repeats[w] = repeats_in(TURN, &mut || black_box(&mut case).write(w));
         }
         case
     }
@@ -156,20 +153,11 @@ impl Case {
         }
     }
 
-    // Nanoseconds of one run.
-    fn run(&mut self, writer: usize, repeats: u32) -> f64 {
-        let start = Instant::now();
-        for _ in 0..repeats {
-            black_box(black_box(&mut *self).write(writer));
-        }
-        start.elapsed().as_nanos() as f64 / f64::from(repeats)
-    }
-
     // Each writer has its turn, another one first in each round.
     fn round(&mut self, round: usize) {
         for i in 0..WRITERS {
             let w = (i + round) % WRITERS;
-            let time = self.run(w, self.repeats[w]);
+            let time = run(self.repeats[w], &mut || black_box(&mut *self).write(w));
             self.times[w].push(time);
         }
     }

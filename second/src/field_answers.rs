@@ -7,6 +7,9 @@ use crate::json::{decode_body, judge, Tree};
 /// The types in the order of their numbers.
 pub const TYPES: [Type; 7] = [Type::Text, Type::Uint, Type::Double, Type::Boolean, Type::Object, Type::Array, Type::Any];
 
+/// The kinds of object, by the letter of the cases about names in them.
+pub const KINDS: [(u8, Place); 3] = [(b'g', Place::Global), (b'c', Place::Capture), (b'a', Place::Annotation)];
+
 /// The answer line of a case, without its line feed; none for a broken case.
 pub fn answer(case: &Case) -> Option<String> {
     let numbers = match case.letter {
@@ -15,12 +18,9 @@ pub fn answer(case: &Case) -> Option<String> {
         b'v' => Some(vec![u64::from(text(&case.payload)? == b"1.0.0")]),
         b'm' => Some(datetime(&text(&case.payload)?)),
         b'n' => Some(name(&decode_body(&case.payload)?)),
-        b'g' => Some(known(Place::Global, &decode_body(&case.payload)?)),
-        b'c' => Some(known(Place::Capture, &decode_body(&case.payload)?)),
-        b'a' => Some(known(Place::Annotation, &decode_body(&case.payload)?)),
         b'k' => types(&case.payload),
         b'x' => Some(vec![entry(&case.payload)?]),
-        _ => None,
+        letter => KINDS.iter().find(|kind| kind.0 == letter).map(|kind| known(kind.1, &case.payload)),
     }?;
     let words: Vec<String> = numbers.iter().map(u64::to_string).collect();
     Some(format!("{} {}", case.letter as char, words.join(" ")))
@@ -64,14 +64,13 @@ fn name(name: &[u8]) -> Vec<u64> {
     fields::after_colon(name).map_or(vec![0], |part| vec![1, part.len() as u64, sum(part)])
 }
 
-/// `g`, `c`, `a`: the number and type of a core field; one past the last and any
-/// type if the name is unknown.
-fn known(place: Place, name: &[u8]) -> Vec<u64> {
-    let list = fields::core_fields(place);
-    let number = fields::known_number(place, name).unwrap_or(list.len());
-    let kind = list.get(number).map_or(Type::Any, |f| f.0);
+/// `g`, `c`, `a`: the number and type of a core field, one past the last and any
+/// type if the name is unknown, and how many core names have its decoded length.
+fn known(place: Place, raw: &[u8]) -> Vec<u64> {
+    let (number, compared) = fields::look_up(place, raw);
+    let kind = fields::core_fields(place).get(number).map_or(Type::Any, |f| f.0);
     let code = TYPES.iter().position(|t| *t == kind).unwrap_or(TYPES.len());
-    vec![number as u64, code as u64]
+    vec![number as u64, code as u64, compared as u64]
 }
 
 /// `k`: whether a value is of each of the six types.

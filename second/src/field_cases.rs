@@ -1,19 +1,20 @@
 //! Fixed cases about one value or name, and the whole stream with random ones
 //! after.
 
-use crate::fields::{core_fields, datatypes, days_in};
+use crate::fields::{datatypes, days_in};
+use crate::field_names::name_cases;
 use crate::field_random::random_case;
 use crate::frames::Case;
 use crate::reading_lists::*;
-use crate::recording_random::PLACES;
 use crate::rng::filled_up;
+use std::collections::HashSet;
 
 /// The fixed cases, then random ones up to `count`.
 pub fn field_cases(seed: u64, count: usize) -> Vec<Case> {
     filled_up(fixed_cases(), seed, count, random_case)
 }
 
-/// Every fixed case.
+/// Every fixed case, once.
 pub fn fixed_cases() -> Vec<Case> {
     let mut list = List(Vec::new());
     list.uints();
@@ -24,20 +25,28 @@ pub fn fixed_cases() -> Vec<Case> {
     list.datetime_forms();
     list.name_bytes();
     list.name_forms();
-    list.known_names();
-    list.near_names();
+    list.0.extend(name_cases());
     list.values();
     list.entries();
     list.entry_members();
+    let mut seen = HashSet::new();
+    list.0.retain(|case| seen.insert(case.clone()));
     list.0
 }
-
-/// The letters of the kinds of object.
-pub const KIND_LETTERS: [u8; 3] = [b'g', b'c', b'a'];
 
 /// The escape of one byte.
 pub fn escaped(byte: u8) -> String {
     format!("\\u{byte:04x}")
+}
+
+/// The same in upper case.
+pub fn escaped_upper(byte: u8) -> String {
+    format!("\\u{byte:04X}")
+}
+
+/// A plain ASCII text with the byte at a position escaped.
+pub fn escaped_at(text: &str, k: usize, escape: fn(u8) -> String) -> String {
+    format!("{}{}{}", &text[..k], escape(text.as_bytes()[k]), &text[k + 1..])
 }
 
 /// A plain ASCII text as a body, with escapes for what needs them.
@@ -47,22 +56,25 @@ pub fn body_of(text: &[u8]) -> String {
 
 /// A plain ASCII text with each position in turn written as an escape, and with
 /// all of them so.
-fn escapes_of(text: &str) -> Vec<String> {
-    let one = |k: usize| format!("{}{}{}", &text[..k], escaped(text.as_bytes()[k]), &text[k + 1..]);
-    let mut list: Vec<String> = (0..text.len()).map(one).collect();
-    list.push(text.bytes().map(escaped).collect());
-    list.push(text.bytes().map(|b| escaped(b).to_uppercase().replace("\\U", "\\u")).collect());
+pub fn escapes_of(text: &str) -> Vec<String> {
+    let mut list: Vec<String> = (0..text.len()).map(|k| escaped_at(text, k, escaped)).collect();
+    list.extend([escaped, escaped_upper].map(|escape| text.bytes().map(escape).collect()));
     list
+}
+
+/// A plain ASCII text with the byte at a position changed in one of three ways.
+pub fn changed(text: &str, k: usize, way: usize) -> String {
+    let byte = text.as_bytes()[k];
+    let other = [byte ^ 0x20, byte + 1, byte - 1][way % 3];
+    format!("{}{}{}", &text[..k], body_of(&[other]), &text[k + 1..])
 }
 
 /// A plain ASCII text with one byte changed, left out or doubled at each position.
 fn misses_of(text: &str) -> Vec<String> {
     let mut list = vec![format!("{text}\\u0000"), format!("{text} "), format!(" {text}"), text.to_uppercase(), format!("\\\\u0030{text}"), String::new()];
     for k in 0..text.len() {
-        let byte = text.as_bytes()[k];
         list.push(format!("{}{}", &text[..k], &text[k + 1..]));
-        let others = [byte ^ 0x20, byte + 1, byte - 1];
-        list.push(format!("{}{}{}", &text[..k], body_of(&others[k % 3..k % 3 + 1]), &text[k + 1..]));
+        list.push(changed(text, k, k));
         if k % 3 == 0 {
             list.push(format!("{}{}", &text[..k + 1], &text[k..]));
         }
@@ -245,47 +257,6 @@ impl List {
         let plain = "x".repeat(2_000);
         for name in [format!("{plain}:{plain}"), format!("{plain}{plain}"), format!("{plain}:{plain}:"), format!("{plain}:{plain}-")] {
             self.add(b'n', &name);
-        }
-    }
-
-    /// Every core name in every kind of object, plain, escaped and without `core:`.
-    fn known_names(&mut self) {
-        for (_, from) in PLACES {
-            for (_, word) in core_fields(from) {
-                let name = format!("core:{word}");
-                let (first, last) = (escaped(word.as_bytes()[0]), escaped(name.as_bytes()[name.len() - 1]));
-                for letter in KIND_LETTERS {
-                    self.add(letter, &name);
-                    self.add(letter, &name.bytes().map(escaped).collect::<String>());
-                }
-                self.add(KIND_LETTERS[word.len() % 3], word);
-                for (_, letter) in PLACES.iter().zip(KIND_LETTERS).filter(|(p, _)| p.1 == from) {
-                    self.add(letter, &format!("core:{first}{}", &word[1..]));
-                    self.add(letter, &format!("{}{last}", &name[..name.len() - 1]));
-                    self.add(letter, &format!("c\\u006fre\\u003a{word}"));
-                }
-            }
-        }
-        for letter in KIND_LETTERS {
-            for name in ["", "core", "core:", ":", "core::", "core:core:label", "label", "x:label", "\\u0063ore:", "core:\\u0000"] {
-                self.add(letter, name);
-            }
-            self.add(letter, &format!("core:label{}", "\\u0030".repeat(333)));
-        }
-    }
-
-    /// Names that miss a core name of their kind by a byte.
-    fn near_names(&mut self) {
-        for ((_, place), letter) in PLACES.into_iter().zip(KIND_LETTERS) {
-            for (k, (_, word)) in core_fields(place).into_iter().enumerate() {
-                let name = format!("core:{word}");
-                let misses = misses_of(&name);
-                for (j, miss) in misses.iter().enumerate() {
-                    if (j + k) % 4 == 0 || j < 2 || j + 4 > misses.len() {
-                        self.add(letter, miss);
-                    }
-                }
-            }
         }
     }
 

@@ -1,13 +1,13 @@
 //! Random cases about one value or name.
 
-use crate::field_cases::KIND_LETTERS;
+use crate::field_answers::KINDS;
 use crate::fields::{core_fields, datatypes};
 use crate::frames::Case;
 use crate::json::judge;
-use crate::json_random::{change_one, good_number, random_chars, random_document, spell};
+use crate::json_random::{change_one, good_number, must_escape, random_chars, random_document, spell};
 use crate::part::{written, Part, Style};
 use crate::reading_lists::{BAD_NAMES, GOOD_NAMES, VALUES};
-use crate::recording_random::{datetime, entry, PLACES};
+use crate::recording_random::{datetime, entry};
 use crate::rng::Rng;
 
 /// One random case.
@@ -18,7 +18,7 @@ pub fn random_case(rng: &mut Rng) -> Case {
         3 => (b'v', quoted(word(&["1.0.0".to_string()], rng))),
         4..=6 => (b'm', quoted(clock(rng))),
         7 | 8 => (b'n', name(rng)),
-        9..=11 => core_name(rng),
+        9..=11 => return random_name(rng),
         12 | 13 => (b'k', value(rng)),
         _ => (b'x', extension(rng)),
     };
@@ -103,14 +103,42 @@ fn name(rng: &mut Rng) -> Vec<u8> {
     spell(rng, &chars)
 }
 
-/// A core name of a kind, of its own mostly, or nearly so.
-fn core_name(rng: &mut Rng) -> (u8, Vec<u8>) {
+/// A name to look up: a core name of its kind mostly, or nearly so, or one of some
+/// length, mostly a core name's; with escapes or without.
+pub fn random_name(rng: &mut Rng) -> Case {
     let kind = rng.below(3);
     let from = if rng.once_in(3) { rng.below(3) } else { kind };
-    let list = core_fields(PLACES[from].1);
+    let list = core_fields(KINDS[from].1);
     let word = list[rng.below(list.len())].1;
     let space = if rng.once_in(12) { rng.pick(&["", "Core:", "core", "core-:", "x:"]) } else { "core:" };
-    (KIND_LETTERS[kind], spelled(&format!("{space}{word}"), rng))
+    let text = format!("{space}{word}");
+    let payload = match rng.below(8) {
+        0 => text.into_bytes(),
+        1..=3 => name_of_length(text.len(), rng),
+        4 => {
+            let length = if rng.once_in(4) { rng.between(23, 300) } else { rng.below(23) };
+            name_of_length(length, rng)
+        }
+        _ => spelled(&text, rng),
+    };
+    Case { letter: KINDS[kind].0, payload }
+}
+
+/// A name of so many bytes decoded.
+fn name_of_length(length: usize, rng: &mut Rng) -> Vec<u8> {
+    let plain = rng.once_in(2);
+    let mut name = if rng.once_in(2) { "core:"[..length.min(5)].to_string() } else { String::new() };
+    while name.len() < length {
+        let c = random_chars(rng, 1)[0];
+        if name.len() + c.len_utf8() <= length && !(plain && must_escape(c)) {
+            name.push(c);
+        }
+    }
+    if plain {
+        return name.into_bytes();
+    }
+    let chars: Vec<char> = name.chars().collect();
+    spell(rng, &chars)
 }
 
 /// Any value, without blanks around it.

@@ -1,6 +1,6 @@
 //! Field names, types, datatypes, datetimes and extension entries.
 
-use crate::json::{all_digits, is_number, Kind, NodeId, Tree};
+use crate::json::{all_digits, decode_any, is_number, Kind, NodeId, Tree};
 
 /// The kinds of object whose core names are known.
 #[derive(Clone, Copy, PartialEq, Eq, Debug)]
@@ -61,11 +61,25 @@ pub fn core_fields(place: Place) -> Vec<(Type, &'static str)> {
     groups.iter().flat_map(|(kind, words)| words.split(' ').map(|word| (*kind, word))).collect()
 }
 
+/// The core names of a kind of object in the same order.
+pub fn core_names(place: Place) -> Vec<String> {
+    core_fields(place).iter().map(|(_, word)| format!("core:{word}")).collect()
+}
+
 /// The number of a known name among the core fields: "A name is known when it is
 /// equal, byte for byte, to one of the core names below for its kind of object,
 /// with `core:` before it; all others are ignored, core-prefixed ones included."
 pub fn known_number(place: Place, name: &[u8]) -> Option<usize> {
-    core_fields(place).iter().position(|(_, word)| format!("core:{word}").as_bytes() == name)
+    core_names(place).iter().position(|core| core.as_bytes() == name)
+}
+
+/// The answer to a raw name's lookup: its number among the core fields, one past
+/// the last if it is unknown, and "how many core names it compared byte for byte:
+/// exactly those of its kind of object with the name's decoded length".
+pub fn look_up(place: Place, raw: &[u8]) -> (usize, usize) {
+    let (name, names) = (decode_any(raw), core_names(place));
+    let number = known_number(place, &name).unwrap_or(names.len());
+    (number, names.iter().filter(|core| core.len() == name.len()).count())
 }
 
 /// The type of a known name.

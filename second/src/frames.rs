@@ -1,7 +1,7 @@
 //! Framed cases: a letter, a space, the payload's length, a line feed, the payload.
 
 /// One case to be answered.
-#[derive(Clone, PartialEq, Eq, Debug)]
+#[derive(Clone, PartialEq, Eq, Hash, Debug)]
 pub struct Case {
     pub letter: u8,
     pub payload: Vec<u8>,

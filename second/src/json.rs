@@ -317,6 +317,21 @@ pub fn decode_body(raw: &[u8]) -> Option<Vec<u8>> {
     String::from_utf16(&units).ok().map(String::into_bytes)
 }
 
+/// What any bytes stand for as a string's body: up to a bare quote, each escape
+/// decoded, every other byte itself, a backslash that begins no escape included.
+pub fn decode_any(raw: &[u8]) -> Vec<u8> {
+    let mut out = Vec::new();
+    let mut rest = raw;
+    while let Some((&byte, after)) = rest.split_first().filter(|(&byte, _)| byte != b'"') {
+        let escape = |length: usize| Some((decode_body(rest.get(..length)?)?, &rest[length..]));
+        let found = if byte == b'\\' { [2, 6, 12].into_iter().find_map(escape) } else { None };
+        let (bytes, left) = found.unwrap_or((vec![byte], after));
+        out.extend(bytes);
+        rest = left;
+    }
+    out
+}
+
 /// The UTF-16 unit of the escape after its backslash.
 fn escape(chars: &mut std::str::Chars) -> Option<u16> {
     let unit = match chars.next()? {

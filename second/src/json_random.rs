@@ -175,13 +175,17 @@ pub fn random_chars(rng: &mut Rng, count: usize) -> Vec<char> {
         .collect()
 }
 
+/// Whether a character can't stand for itself in a string.
+pub fn must_escape(c: char) -> bool {
+    c == '"' || c == '\\' || u32::from(c) < 0x20
+}
+
 /// One of the spellings of the characters.
 pub fn spell(rng: &mut Rng, chars: &[char]) -> Vec<u8> {
     let often = rng.between(1, 6);
     let mut out = Vec::new();
     for &c in chars {
-        let must = c == '"' || c == '\\' || u32::from(c) < 0x20;
-        if !must && !rng.once_in(often) {
+        if !must_escape(c) && !rng.once_in(often) {
             out.extend_from_slice(c.encode_utf8(&mut [0; 4]).as_bytes());
             continue;
         }

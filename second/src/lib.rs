@@ -2,6 +2,7 @@
 
 pub mod field_answers;
 pub mod field_cases;
+pub mod field_names;
 pub mod field_random;
 pub mod fields;
 pub mod frames;

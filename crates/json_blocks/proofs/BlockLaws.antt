@@ -8,7 +8,7 @@ use lib.ListN.{length}
 use lib.Dec.{eqb, ltb, leb}
 use borrow.Author.Tests.{le-leb, lt-leb, leb-true, leb-false, ltb-true, ltb-false, eqb-true, eqb-false, not-true}
 use Rattle.json_blocks.specs.TextBytes.{byte, blank, skipBlanks}
-use Rattle.json_blocks.specs.Blocks.{plainByte, ordinaryByte, spaceByte, allAt, PlainTo}
+use Rattle.json_blocks.specs.Blocks.{plainByte, ordinaryByte, spaceByte, allAt, blockAt, PlainTo}
 use Rattle.json_blocks.proofs.ByteLaws.{inside, no-blank, skip-on}
 
 pub and-left : (a b : Bool) → (a && b) ≡ true → a ≡ true
@@ -69,6 +69,20 @@ module _ (good : ℕ → Bool) (s : List ℕ) where
     go : (t : Bool) → eqb i j ≡ t → (i + 1 ≤ j → good (byte s j) ≡ true) → good (byte s j) ≡ true
     go true e f = let q : i ≡ j = eqb-true _ _ e in rw (← q) (all-first n i h)
     go false e f = let q = eqb-false i j e in f (omega arith)
+
+  -- n bytes that are good each
+  pub all-of : (n i : ℕ) → ((j : ℕ) → i ≤ j → j < i + n → good (byte s j) ≡ true) → allAt good n s i ≡ true
+  unfolding allAt
+  all-of zero i h = refl
+  all-of (suc n) i h = rw (h i (omega arith) (omega arith)) (all-of n (i + 1) (λ j l m. h j (omega arith) (omega arith)))
+
+  -- a block of eight
+  module _ (i : ℕ) (h : blockAt good s i ≡ true) where
+    pub block-room : i + 8 ≤ length s
+    block-room = leb-true _ _ (and-left (leb (i + 8) (length s)) _ h)
+
+    pub block-good : allAt good 8 s i ≡ true
+    block-good = and-right (leb (i + 8) (length s)) _ h
 
   -- what good bytes leave as it is, n of them leave as it is
   pub all-pass : {A : Type 0} (f : ℕ → A) → ((i : ℕ) → i < length s → good (byte s i) ≡ true → f (i + 1) ≡ f i)

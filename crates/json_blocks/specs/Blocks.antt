@@ -3,6 +3,7 @@ use mathlib.Core.Path.{_≡_}
 use mathlib.Core.Bool.{Bool, true, not, _&&_}
 use mathlib.Core.List.{List}
 use Prim.Native.Nat.{ℕ, zero, suc, _≤_, _<_, _+_}
+use lib.ListN.{length}
 use lib.Dec.{eqb, ltb, leb}
 use Rattle.json_blocks.specs.TextBytes.{byte}
 
@@ -21,6 +22,10 @@ spaceByte b = eqb b 0x20
 unfoldable pub allAt : (ℕ → Bool) → ℕ → List ℕ → ℕ → Bool
 allAt good zero s i = true
 allAt good (suc n) s i = good (byte s i) && allAt good n s (i + 1)
+
+-- eight good bytes stand from i on
+abbrev pub blockAt : (ℕ → Bool) → List ℕ → ℕ → Bool
+blockAt good s i = leb (i + 8) (length s) && allAt good 8 s i
 
 -- each byte from `at` up to r is plain
 pub record PlainTo (s : List ℕ) (at r : ℕ) : Type 0 where

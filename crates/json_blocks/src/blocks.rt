@@ -5,7 +5,7 @@ ghost use Prim.Native.Nat.{_+_, _≤_};
 ghost use lib.ListN.{length};
 ghost use lib.Dec.{leb};
 ghost use Rattle.json_blocks.specs.TextBytes.{skipBlanks};
-ghost use Rattle.json_blocks.specs.Blocks.{plainByte, ordinaryByte, spaceByte, allAt};
+ghost use Rattle.json_blocks.specs.Blocks.{plainByte, ordinaryByte, spaceByte, allAt, blockAt};
 
 // How many bytes are tested at once.
 const BLOCK: usize = 8;
@@ -74,6 +74,31 @@ fn are_spaces(s: &[u8], i: usize) -> bool
         k += 1;
     }
     ok
+}
+
+// The eight bytes from a place on are no quotes and no backslashes.
+fn are_ordinary(s: &[u8], i: usize) -> bool
+    requires { ⌜ i + 8 ≤ length (now s) ⌝ }
+    ensures { λ r. ⌜ r ≡ allAt ordinaryByte 8 (now (s .entry)) i ⌝ }
+{
+    let mut ok = true;
+    let mut k = 0usize;
+    while k < BLOCK {
+        let e = is_ordinary(s[i + k]);
+        ok = both(ok, e);
+        k += 1;
+    }
+    ok
+}
+
+// Eight such bytes stand from a place on.
+pub fn is_ordinary_block(s: &[u8], i: usize) -> bool
+    ensures { λ r. ⌜ r ≡ blockAt ordinaryByte (now (s .entry)) i ⌝ }
+{
+    if has_room(s, i, BLOCK) {
+        return are_ordinary(s, i);
+    }
+    false
 }
 
 // Past blocks of spaces.

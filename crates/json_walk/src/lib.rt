@@ -1,16 +1,12 @@
 // The members of objects and the elements of arrays of a text that is JSON, one by one.
 ghost use mathlib.Core.Path.{_≡_};
-ghost use Prim.Native.Nat.{ℕ, _<_, _+_, _≤_};
-ghost use lib.ListN.{length};
+ghost use Prim.Native.Nat.{ℕ, _<_};
 ghost use Rattle.json_grammar.specs.Skip.{skipString, opens, closes, skipOpen, tokenByte, skipValue};
 ghost use Rattle.json_blocks.specs.TextBytes.{skipWhile};
-ghost use Rattle.json_blocks.specs.Blocks.{ordinaryByte, allAt};
 ghost use Rattle.json_walk.specs.Members.{nextItem, nameStep, memberStep, elementStep};
 use json_blocks::Cursor;
 use json_blocks::Read;
-use json_blocks::blocks::both;
-use json_blocks::blocks::has_room;
-use json_blocks::blocks::is_ordinary;
+use json_blocks::blocks::is_ordinary_block;
 use json_blocks::is_blank;
 use json_blocks::peek;
 
@@ -53,37 +49,14 @@ pub enum ElementStep {
     End,
 }
 
-// How many bytes are passed at once.
-const BLOCK: usize = 8;
-
-// The eight bytes from a place on are no quotes and no backslashes. No byte ends the loop, so that it is compiled to a comparison of
-// them all.
-fn are_ordinary(s: &[u8], i: usize) -> bool
-    requires { ⌜ i + 8 ≤ length (now s) ⌝ }
-    ensures { λ r. ⌜ r ≡ allAt ordinaryByte 8 (now (s .entry)) i ⌝ }
-{
-    let mut ok = true;
-    let mut k = 0usize;
-    while k < BLOCK {
-        let e = is_ordinary(s[i + k]);
-        ok = both(ok, e);
-        k += 1;
-    }
-    ok
-}
-
-// Past blocks of such bytes.
+// Past blocks of bytes that are no quotes and no backslashes.
 fn skip_ordinary(s: &[u8], at: usize) -> usize
     ensures { λ r. ⌜ skipString (now (s .entry)) r ≡ skipString (now (s .entry)) at ⌝ }
 {
     let mut i = at;
     loop {
-        if has_room(s, i, BLOCK) {
-            if are_ordinary(s, i) {
-                i += BLOCK;
-            } else {
-                return i;
-            }
+        if is_ordinary_block(s, i) {
+            i += 8;
         } else {
             return i;
         }

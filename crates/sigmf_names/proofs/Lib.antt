@@ -1,2 +1,2 @@
 pub mod NameLaws
-mod PutLaws
+mod DecodedLaws

@@ -1,114 +1,36 @@
 -- The lists of specs/Names.antt; steps of the definitions there, on plain variables.
 use mathlib.Core.Path.{_≡_, refl, sym, ap, _∙_}
-use mathlib.Core.Bool.{Bool, true, false, not, _&&_, and-true, and-assoc, false≢true}
-use mathlib.Core.List.{List, [], _∷_, _++_}
-use Prim.Native.Nat.{ℕ, zero, suc, _≤_, _<_, _+_}
+use mathlib.Core.Bool.{Bool, true, false, cond, _&&_, _||_, and-true, and-assoc, false≢true}
+use mathlib.Core.List.{List, [], _∷_}
+use Prim.Native.Nat.{ℕ, suc, _≤_, _<_, _+_}
 use native.Mathlib.Omega.{arith}
 use native.Mathlib.Numerals.{add-one}
-use lib.ListN.{length, getD, take, drop, List·getD-append, List·getD-eq-default, drop-of-length-le}
-use lib.Seq.{getD-append-add, drop-cons}
+use lib.ListN.{length, getD, drop, List·getD-eq-default, drop-of-length-le}
+use lib.Seq.{drop-cons}
 use lib.Dec.{eqb, leb}
-use borrow.Author.Tests.{eq-eqb, ne-eqb, eqb-true, eqb-false, leb-true}
+use borrow.Author.Tests.{ne-eqb, eqb-false, lt-leb}
 use Rattle.json_blocks.specs.TextBytes.{within}
 use Rattle.json_blocks.specs.Lists.{all}
-use Rattle.json_blocks.specs.Blocks.{ordinaryByte}
-use Rattle.json_blocks.proofs.BlockLaws.{ordinary-is}
+use Rattle.json_blocks.proofs.BlockLaws.{and-left, and-right}
 use Rattle.json_names.specs.Same.{same}
-use Rattle.json_strings.proofs.DecodeLaws.{plain-whole}
 use Rattle.json_names.proofs.SameLaws.{same-is, same-ne}
 use Rattle.sigmf_datatypes.proofs.Laws.{all-at}
 use Rattle.sigmf_datatypes.proofs.Laws.{all as every}
-use Rattle.sigmf_texts.specs.Texts.{nameText}
 use Rattle.sigmf_texts.specs.Lookup.{indexIn}
 use Rattle.sigmf_texts.specs.Form.{nameByte, namespaceByte, namespaceOf, afterColon, formOk}
-use Rattle.sigmf_texts.proofs.FormLaws.{all-end, all-on, all-not}
-use Rattle.sigmf_texts.proofs.LookupLaws.{index-same, index-here, index-later}
+use Rattle.sigmf_texts.proofs.LookupLaws.{index-same}
 use Rattle.sigmf_names.specs.declared.Object.{Object}
 use Rattle.sigmf_names.specs.declared.Object.the-variants as O
 use Rattle.sigmf_values.specs.declared.FieldType.the-variants as T
+use Rattle.sigmf_names.specs.declared.NameLookup.{NameLookup}
+use Rattle.sigmf_names.specs.Lookup.{namesOfLength, lookupIn}
+use Rattle.sigmf_names.specs.LookupCode.{oneMore}
 use Rattle.sigmf_names.specs.Names.{Core, globalFields, captureFields, annotationFields, coreOf, otherField, coreName, coreAt, typeAt}
 
 -- ---- past the end of a list
-pub name-over : (cs : List Core) (d : List ℕ) (k : ℕ) → length cs ≤ k → same d [] ≡ same d (coreName (coreAt cs k))
-unfolding coreAt
-name-over cs d k h = rw (List·getD-eq-default cs otherField h)
-
 pub type-over : (cs : List Core) (i : ℕ) → length cs ≤ i → T.Any ≡ typeAt cs i
 unfolding typeAt coreAt
 type-over cs i h = ap (λ (c : Core). c .type) (sym (List·getD-eq-default cs otherField h))
-
--- ---- looking a text up among the fields from i on
-module _ (cs : List Core) (i : ℕ) (d : List ℕ) (h : i < length cs) where
-  pub core-here : same d (coreName (coreAt cs i)) ≡ true → i ≡ i + indexIn coreName (drop i cs) d
-  unfolding coreAt
-  core-here e = index-here coreName otherField cs i d h e
-
-  pub core-later : same d (coreName (coreAt cs i)) ≡ false → i + 1 + indexIn coreName (drop (i + 1) cs) d ≡ i + indexIn coreName (drop i cs) d
-  unfolding coreAt
-  core-later e = index-later coreName otherField cs i d h e
-
--- ---- no two fields of a kind have one name: the place of field i's name is i
-
--- f gives the rows their numbers, from k on
-unfoldable numbered : {A : Type 0} → (A → ℕ) → ℕ → List A → Bool
-numbered f k [] = true
-numbered f k (x ∷ xs) = eqb (f x) k && numbered f (suc k) xs
-
-number-at : {A : Type 0} (f : A → ℕ) (k : ℕ) (xs : List A) (i : ℕ) (z : A) → numbered f k xs ≡ true → i < length xs
-    → f (getD xs i z) ≡ k + i
-unfolding numbered
-number-at f k [] i z e h = absurd (omega arith)
-number-at f k (x ∷ xs) zero z e h = go (eqb (f x) k) refl e where
-  go : (t : Bool) → eqb (f x) k ≡ t → (t && numbered f (suc k) xs) ≡ true → f x ≡ k + 0
-  go true q e = let p : f x ≡ k = eqb-true _ _ q in omega arith
-  go false q e = absurd (false≢true e)
-number-at f k (x ∷ xs) (suc i) z e h = let p = number-at f (suc k) xs i z (right (eqb (f x) k) e) (omega arith) in omega arith
-  where
-    right : (t : Bool) → (t && numbered f (suc k) xs) ≡ true → numbered f (suc k) xs ≡ true
-    right true e = e
-    right false e = absurd (false≢true e)
-
-own : (cs : List Core) (i : ℕ) → numbered (λ (c : Core). indexIn coreName cs (coreName c)) 0 cs ≡ true → i < length cs
-    → indexIn coreName cs (coreName (coreAt cs i)) ≡ i
-unfolding coreAt
-own cs i e h = let p = number-at (λ (c : Core). indexIn coreName cs (coreName c)) 0 cs i otherField e h in omega arith
-
-own-place : (kind : Object) (i : ℕ) → i < length (coreOf kind) → indexIn coreName (coreOf kind) (coreName (coreAt (coreOf kind) i)) ≡ i
-unfolding globalFields captureFields annotationFields numbered indexIn same
-own-place O.Global i h = own globalFields i refl h
-own-place O.Capture i h = own captureFields i refl h
-own-place O.Annotation i h = own annotationFields i refl h
-
-pub only-place : (kind : Object) (i : ℕ) (d : List ℕ) → i < length (coreOf kind) → same d (coreName (coreAt (coreOf kind) i)) ≡ true
-    → i ≡ indexIn coreName (coreOf kind) d
-only-place kind i d h e = sym (own-place kind i h) ∙ ap (indexIn coreName (coreOf kind)) (sym (same-is d _ e))
-
--- ---- no field's name has more than 20 bytes: a name is known by its first 21
-cut-same : (n : ℕ) (x w : List ℕ) → length w < n → same (take n x) w ≡ same x w
-unfolding same
-cut-same zero x w h = absurd (omega arith)
-cut-same (suc n) [] w h = refl
-cut-same (suc n) (a ∷ x) [] h = refl
-cut-same (suc n) (a ∷ x) (b ∷ w) h = ap (λ (t : Bool). eqb a b && t) (cut-same n x w (omega arith))
-
-cut : (cs : List Core) (x : List ℕ) → every (λ (c : Core). leb (length (coreName c)) 20) cs ≡ true
-    → indexIn coreName cs (take 21 x) ≡ indexIn coreName cs x
-unfolding every indexIn
-cut [] x e = refl
-cut (c ∷ cs) x e = go (leb (length (coreName c)) 20) refl e (cut cs x) where
-  go : (t : Bool) → leb (length (coreName c)) 20 ≡ t → (t && every (λ (c : Core). leb (length (coreName c)) 20) cs) ≡ true
-      → (every (λ (c : Core). leb (length (coreName c)) 20) cs ≡ true → indexIn coreName cs (take 21 x) ≡ indexIn coreName cs x)
-      → indexIn coreName (c ∷ cs) (take 21 x) ≡ indexIn coreName (c ∷ cs) x
-  go true q e f =
-      let l : length (coreName c) ≤ 20 = leb-true _ 20 q in
-      rw (cut-same 21 x (coreName c) (omega arith), f e)
-  go false q e f = absurd (false≢true e)
-
-pub cut-place : (kind : Object) (x : List ℕ) → indexIn coreName (coreOf kind) (take 21 x) ≡ indexIn coreName (coreOf kind) x
-unfolding globalFields captureFields annotationFields every
-cut-place O.Global x = cut globalFields x refl
-cut-place O.Capture x = cut captureFields x refl
-cut-place O.Annotation x = cut annotationFields x refl
 
 -- ---- a test that every name of a list passes is passed by every known name
 known : (f : List ℕ → Bool) (cs : List Core) (d : List ℕ) → every (λ (c : Core). f (coreName c)) cs ≡ true → indexIn coreName cs d < length cs → f d ≡ true
@@ -122,27 +44,88 @@ known-formed O.Global d h = known formOk globalFields d refl h
 known-formed O.Capture d h = known formOk captureFields d refl h
 known-formed O.Annotation d h = known formOk annotationFields d refl h
 
-known-verbatim : (kind : Object) (d : List ℕ) → indexIn coreName (coreOf kind) d < length (coreOf kind) → all ordinaryByte d ≡ true
-unfolding globalFields captureFields annotationFields every all ordinaryByte
-known-verbatim O.Global d h = known (all ordinaryByte) globalFields d refl h
-known-verbatim O.Capture d h = known (all ordinaryByte) captureFields d refl h
-known-verbatim O.Annotation d h = known (all ordinaryByte) annotationFields d refl h
+-- ---- texts of two lengths are apart
+pub length-apart : (a b : List ℕ) → (length a ≡ length b → ⊥) → false ≡ same a b
+length-apart a b f = sym (same-ne a b (λ e. f (ap length e)))
 
--- ---- a name of bytes that stand for themselves is its own decoded text
-all-every : (f : ℕ → Bool) (s : List ℕ) → all f s ≡ every f s
-unfolding all every
-all-every f [] = refl
-all-every f (b ∷ s) = rw (all-every f s)
+-- ---- looking a name d up among the names that have its length n: the place in the list, from k on
+unfoldable pub placeFrom : ℕ → ℕ → List Core → List ℕ → ℕ
+placeFrom k n [] d = k
+placeFrom k n (c ∷ cs) d = cond (eqb (length (coreName c)) n) (cond (same d (coreName c)) k (placeFrom (suc k) n cs d)) (placeFrom (suc k) n cs d)
 
-itself : (s : List ℕ) → all ordinaryByte s ≡ true → nameText s ≡ s
-itself s e = plain-whole s (λ i h. let o = ordinary-is (getD s i 0) (all-at ordinaryByte s i 0 (sym (all-every ordinaryByte s) ∙ e) h) in (o .slash, o .quote))
+place-is : (k : ℕ) (cs : List Core) (d : List ℕ) → placeFrom k (length d) cs d ≡ k + indexIn coreName cs d
+unfolding placeFrom indexIn
+place-is k [] d = omega arith
+place-is k (c ∷ cs) d = go (eqb (length (coreName c)) (length d)) refl (place-is (suc k) cs d) where
+  same-go : (t : Bool) → placeFrom (suc k) (length d) cs d ≡ suc k + indexIn coreName cs d
+      → cond t k (placeFrom (suc k) (length d) cs d) ≡ k + cond t 0 (suc (indexIn coreName cs d))
+  same-go true e = omega arith
+  same-go false e = omega (arith, e)
 
-module _ (kind : Object) (s : List ℕ) (r : ℕ) (e : r ≡ indexIn coreName (coreOf kind) s) where
-  pub number-verbatim : all ordinaryByte s ≡ true → r ≡ indexIn coreName (coreOf kind) (nameText s)
-  number-verbatim h = rw (itself s h) e
+  go : (t : Bool) → eqb (length (coreName c)) (length d) ≡ t → placeFrom (suc k) (length d) cs d ≡ suc k + indexIn coreName cs d
+      → cond t (cond (same d (coreName c)) k (placeFrom (suc k) (length d) cs d)) (placeFrom (suc k) (length d) cs d)
+      ≡ k + cond (same d (coreName c)) 0 (suc (indexIn coreName cs d))
+  go true q e = same-go (same d (coreName c)) e
+  go false q e =
+      rw (sym (length-apart d (coreName c) (λ l. eqb-false _ _ q (sym l)))) (omega (arith, e))
 
-  pub number-known : r < length (coreOf kind) → r ≡ indexIn coreName (coreOf kind) (nameText s)
-  number-known h = number-verbatim (known-verbatim kind s (rw e at h))
+-- so that only the names of length n are asked
+pub by-length : (cs : List Core) (n : ℕ) (d : List ℕ) → n ≡ length d
+    → _≡_ {A = NameLookup} (record { number = placeFrom 0 n cs d; compared = namesOfLength cs n }) (lookupIn cs d)
+by-length cs n d e = let p : placeFrom 0 (length d) cs d ≡ indexIn coreName cs d = omega (arith, place-is 0 cs d) in rw (e, p)
+
+-- one name after another
+pub then : (b : Bool) (i : ℕ) {r x y : NameLookup} → r ≡ oneMore b i x → x ≡ y → r ≡ oneMore b i y
+then b i e f = e ∙ ap (oneMore b i) f
+
+pub count-more : (b : Bool) (i : ℕ) (x : NameLookup) {r : NameLookup} → r ≡ oneMore b i x → r .compared ≡ x .compared + 1
+unfolding oneMore
+count-more b i x e = ap (λ (r : NameLookup). r .compared) e
+
+-- ---- a name whose length is none of the names'
+-- a test of lengths that every name of a list passes, and d does not
+module _ (f : ℕ → Bool) (d : List ℕ) (h : f (length d) ≡ false) where
+  other-length : (c : Core) → f (length (coreName c)) ≡ true → length (coreName c) ≡ length d → ⊥
+  other-length c e q = false≢true (sym h ∙ ap f (sym q) ∙ e)
+
+  apart-from : (cs : List Core) → every (λ (c : Core). f (length (coreName c))) cs ≡ true
+      → (indexIn coreName cs d ≡ length cs) × (namesOfLength cs (length d) ≡ 0)
+  unfolding every indexIn namesOfLength
+  apart-from [] e = (refl, refl)
+  apart-from (c ∷ cs) e =
+      let a = other-length c (and-left _ _ e) in
+      let r = apart-from cs (and-right (f (length (coreName c))) _ e) in
+      (rw (sym (length-apart d (coreName c) (λ q. a (sym q)))) (ap suc (r .0)), rw (ne-eqb _ _ a) (r .1))
+
+  pub none-of-length : (cs : List Core) → every (λ (c : Core). f (length (coreName c))) cs ≡ true
+      → _≡_ {A = NameLookup} (record { number = length cs; compared = 0 }) (lookupIn cs d)
+  none-of-length cs e = let r = apart-from cs e in rw (r .0, r .1)
+
+-- n is one of some numbers; n is none of them, as a match says it
+unfoldable pub oneOf : List ℕ → ℕ → Bool
+oneOf [] n = false
+oneOf (l ∷ ls) n = eqb n l || oneOf ls n
+
+unfoldable pub NoneOf : List ℕ → ℕ → Type 0
+NoneOf [] n = Unit {0}
+NoneOf (l ∷ ls) n = NoneOf ls n × (n ≡ l → ⊥)
+
+none-of : (ls : List ℕ) (n : ℕ) → NoneOf ls n → oneOf ls n ≡ false
+unfolding oneOf NoneOf
+none-of [] n h = refl
+none-of (l ∷ ls) n h = rw (ne-eqb n l (h .1)) (none-of ls n (h .0))
+
+pub none-compared : (cs : List Core) (ls : List ℕ) (d : List ℕ) → every (λ (c : Core). oneOf ls (length (coreName c))) cs ≡ true → NoneOf ls (length d)
+    → _≡_ {A = NameLookup} (record { number = length cs; compared = 0 }) (lookupIn cs d)
+none-compared cs ls d e h = none-of-length (oneOf ls) d (none-of ls (length d) h) cs e
+
+-- no core name has more than 20 bytes
+pub none-longer : (kind : Object) (d : List ℕ) → 20 < length d
+    → _≡_ {A = NameLookup} (record { number = length (coreOf kind); compared = 0 }) (lookupIn (coreOf kind) d)
+unfolding globalFields captureFields annotationFields every
+none-longer O.Global d h = none-of-length (λ n. leb n 20) d (lt-leb _ _ h) globalFields refl
+none-longer O.Capture d h = none-of-length (λ n. leb n 20) d (lt-leb _ _ h) captureFields refl
+none-longer O.Annotation d h = none-of-length (λ n. leb n 20) d (lt-leb _ _ h) annotationFields refl
 
 -- ---- two texts of one length, from i on; t says that they are equal up to there
 module _ (a b : List ℕ) (i : ℕ) (t : Bool) where
@@ -159,21 +142,3 @@ module _ (a b : List ℕ) (i : ℕ) (t : Bool) where
       let k : i < length a = omega arith in
       rw (add-one i, drop-cons a i 0 k, drop-cons b i 0 h)
       (and-assoc t (eqb (getD a i 0) (getD b i 0)) (same (drop (suc i) a) (drop (suc i) b)))
-
-pub length-apart : (a b : List ℕ) → (length a ≡ length b → ⊥) → false ≡ same a b
-length-apart a b f = sym (same-ne a b (λ e. f (ap length e)))
-
--- ---- the bytes of a name from i on
-module _ (s : List ℕ) (i : ℕ) where
-  pub verbatim-end : length s ≤ i → true ≡ all ordinaryByte (drop i s)
-  verbatim-end h = all-end (drop i s) ordinaryByte (drop-of-length-le s h)
-
-  module _ (h : i < length s) (b : ℕ) (e : b ≡ getD s i 0) where
-    head : drop i s ≡ b ∷ drop (i + 1) s
-    head = rw (add-one i, e) (drop-cons s i 0 h)
-
-    pub verbatim-not : ordinaryByte b ≡ false → false ≡ all ordinaryByte (drop i s)
-    verbatim-not q = all-not (drop i s) b _ head ordinaryByte q
-
-    pub verbatim-on : ordinaryByte b ≡ true → all ordinaryByte (drop (i + 1) s) ≡ all ordinaryByte (drop i s)
-    verbatim-on q = all-on (drop i s) b _ head ordinaryByte q

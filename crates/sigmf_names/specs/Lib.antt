@@ -1,1 +1,4 @@
 pub mod Names
+pub mod Lookup
+pub mod LookupCode
+pub mod DecodedCode

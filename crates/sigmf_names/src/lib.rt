@@ -1,4 +1,5 @@
 // The core names of each kind of object, with their numbers and types. A name's judge is handed the raw name between its quotes.
+mod decoded;
 mod lookup;
 pub mod names;
 
@@ -7,6 +8,13 @@ pub enum Object {
     Global,
     Capture,
     Annotation,
+}
+
+// The number of the field with a name, or how many fields there are, and how many names were compared with it byte for byte.
+#[repr(C)]
+pub struct NameLookup {
+    pub number: usize,
+    pub compared: usize,
 }
 
 // The numbers of the global object's fields whose values are read, and how many fields there are.

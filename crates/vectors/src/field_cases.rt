@@ -4,7 +4,7 @@ use crate::print::flag;
 use crate::print::line;
 use crate::print::number;
 use crate::print::one;
-use crate::print::two;
+use crate::print::three;
 use crate::print::word;
 use crate::sum::NONE;
 use crate::sum::print_sum;
@@ -16,8 +16,8 @@ use sigmf_datetimes::datetimes::datetime;
 use sigmf_extensions::Extension;
 use sigmf_extensions::entry::extension;
 use sigmf_names::Object;
-use sigmf_names::names::field_number;
 use sigmf_names::names::field_type;
+use sigmf_names::names::look_up;
 use sigmf_texts::NameForm;
 use sigmf_texts::datatype;
 use sigmf_texts::form::name_form;
@@ -79,7 +79,7 @@ pub(crate) fn answer_form(raw: &[u8]) -> bool {
     print_sum(b"n 1", sum_decoded(raw, p, NONE))
 }
 
-// `g`, `c`, `a`: the number and the type of the core field with a name.
+// `g`, `c`, `a`: the number and the type of the core field with a name, and how many names were compared with it.
 pub(crate) fn answer_name(letter: u8, raw: &[u8]) -> bool {
     if letter == b'g' {
         return print_field(b"g", Object::Global, raw);
@@ -91,9 +91,9 @@ pub(crate) fn answer_name(letter: u8, raw: &[u8]) -> bool {
 }
 
 fn print_field(w: &[u8], kind: Object, raw: &[u8]) -> bool {
-    let i = field_number(kind, raw);
-    let wanted = field_type(kind, i);
-    two(w, i as u64, type_number(wanted))
+    let r = look_up(kind, raw);
+    let wanted = field_type(kind, r.number);
+    three(w, r.number as u64, type_number(wanted), r.compared as u64)
 }
 
 fn type_number(wanted: FieldType) -> u64 {

@@ -4,11 +4,15 @@
 mod export;
 #[path = "../../../crates/export_listing/export_listing.rs"]
 mod export_listing;
+#[path = "../../../crates/export_names/export_names.rs"]
+mod export_names;
 #[path = "../../../crates/export_writer/export_writer.rs"]
 mod export_writer;
 
 use export::{Answer, Summary};
 use export_listing::Labelled;
+use export_names::NameLookup;
+use second::fields::{look_up, Place};
 use second::frames::{write_frames, Case};
 use second::json_random::mutate;
 use second::listing::{label, listing};
@@ -20,15 +24,17 @@ use second::table::{copy, cut, locate, pieces, Table, Written};
 use second::table_case::{summary_numbers, TableCase, COPY, CUT, LOCATE, PIECES};
 use second::words::{byte_memory, dataset_bytes, memory};
 use second::writer::{reads_back, write};
-use second::{json_answers, json_random, listing_random, reading_answers, reading_random, steps_answers, steps_random, table_random, writing_random};
+use second::{field_random, json_answers, json_random, listing_random, reading_answers, reading_random};
+use second::{steps_answers, steps_random, table_random, writing_random};
 use std::process::ExitCode;
 use std::time::{Duration, Instant};
 
 /// A kind of case: a fresh one is answered by both programs, and handed back where they disagree.
 type Compare = fn(&mut Rng) -> Result<(), Case>;
 
-const KINDS: [(&str, Compare); 6] =
-    [("json", json), ("reading", reading), ("tables", tables), ("listings", listings), ("writing", writing), ("steps", steps)];
+const KINDS: [(&str, Compare); 7] = [
+    ("json", json), ("reading", reading), ("tables", tables), ("listings", listings), ("writing", writing), ("steps", steps), ("names", names),
+];
 
 fn agree(same: bool, case: Case) -> Result<(), Case> {
     if same {
@@ -172,6 +178,21 @@ fn take(state: &mut State, summary: &mut Summary, step: &Step) -> u64 {
     } else {
         part.refusal
     }
+}
+
+/// A name, mutated or not, looked up by both.
+fn names(rng: &mut Rng) -> Result<(), Case> {
+    let mut case = field_random::random_name(rng);
+    if rng.once_in(2) {
+        mutate(rng, &mut case.payload);
+    }
+    let (place, found) = match case.letter {
+        b'g' => (Place::Global, export_names::global_lookup(&case.payload)),
+        b'c' => (Place::Capture, export_names::capture_lookup(&case.payload)),
+        _ => (Place::Annotation, export_names::annotation_lookup(&case.payload)),
+    };
+    let (number, compared) = look_up(place, &case.payload);
+    agree(found == NameLookup { number, compared }, case)
 }
 
 /// How many cases of each kind agreed.

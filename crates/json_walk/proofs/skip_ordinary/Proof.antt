@@ -1,9 +1,10 @@
 use borrow.Author.Needs.{needs}
 use native.Mathlib.Omega.{arith}
 use lib.ListN.{length}
-use Prim.Native.Nat.{_-_, _+_}
+use Prim.Native.Nat.{_-_}
 use mathlib.Core.Path.{_≡_, refl, sym, _∙_}
-use borrow.Author.Tests.{leb-true}
+use Rattle.json_blocks.specs.Blocks.{ordinaryByte}
+use Rattle.json_blocks.proofs.BlockLaws.{block-room, block-good}
 use Rattle.json_grammar.specs.Skip.{skipString}
 use Rattle.json_walk.proofs.WalkLaws.{ordinary-pass}
 use Rattle.json_walk.proofs.skip_ordinary.Statement.{statement}
@@ -18,26 +19,30 @@ abbrev μ-loop : tie.MeasureT-loop
 loop-holds : tie.Need-loop-holds Inv-loop μ-loop
 loop-holds c = refl
 
-has-room-requires : tie.Need-has-room-requires Inv-loop μ-loop
-has-room-requires c κs = search needs
-
-are-ordinary-requires : tie.Need-are-ordinary-requires Inv-loop μ-loop
-are-ordinary-requires c κs = omega (arith, leb-true ((c .before .before .loop .i) + 8) (length (c .before .before .before .before .args .s .now)) (sym (c .before .has-room .ensures) ∙ (c .if1 .taken)))
+is-ordinary-block-requires : tie.Need-is-ordinary-block-requires Inv-loop μ-loop
+is-ordinary-block-requires c κs = search needs
 
 add-i : tie.Need-add-i Inv-loop μ-loop
-add-i c = omega (arith, leb-true ((c .before .before .before .before .loop .i) + 8) (length (c .before .before .before .before .before .before .args .s .now)) (sym (c .before .before .before .has-room .ensures) ∙ (c .before .before .if1 .taken)))
+add-i c =
+    let s = c .before .before .before .before .args .s .now in
+    let h = block-room ordinaryByte s (c .before .before .loop .i) (sym (c .before .is-ordinary-block .ensures) ∙ (c .if1 .taken)) in
+    omega arith
 
 loop-less : tie.Need-loop-less Inv-loop μ-loop
-loop-less c = omega (arith, leb-true ((c .before .before .before .before .loop .i) + 8) (length (c .before .before .before .before .before .before .args .s .now)) (sym (c .before .before .before .has-room .ensures) ∙ (c .before .before .if1 .taken)))
+loop-less c =
+    let s = c .before .before .before .before .args .s .now in
+    let h = block-room ordinaryByte s (c .before .before .loop .i) (sym (c .before .is-ordinary-block .ensures) ∙ (c .if1 .taken)) in
+    omega arith
 
 loop-again : tie.Need-loop-again Inv-loop μ-loop
-loop-again c = ordinary-pass (c .before .before .before .before .before .before .args .s .now) 8 (c .before .before .before .before .loop .i) (leb-true ((c .before .before .before .before .loop .i) + 8) (length (c .before .before .before .before .before .before .args .s .now)) (sym (c .before .before .before .has-room .ensures) ∙ (c .before .before .if1 .taken))) (sym (c .before .are-ordinary .ensures) ∙ (c .if2 .taken)) ∙ (c .before .before .before .before .loop .inv)
+loop-again c =
+    let s = c .before .before .before .before .args .s .now in
+    let loop = c .before .before .loop in
+    let e = sym (c .before .is-ordinary-block .ensures) ∙ (c .if1 .taken) in
+    ordinary-pass s 8 (loop .i) (block-room ordinaryByte s (loop .i) e) (block-good ordinaryByte s (loop .i) e) ∙ (loop .inv)
 
 returns : tie.Need-returns Inv-loop μ-loop
-returns c = (c .before .before .before .before .loop .inv)
-
-returns-2 : tie.Need-returns-2 Inv-loop μ-loop
-returns-2 c = (c .before .before .loop .inv)
+returns c = c .before .before .loop .inv
 
 pub skip-ordinary-spec : {M : Type 1} → statement M
 skip-ordinary-spec =
@@ -46,10 +51,8 @@ skip-ordinary-spec =
     Inv-loop
     μ-loop
     loop-holds
-    has-room-requires
-    are-ordinary-requires
+    is-ordinary-block-requires
     add-i
     loop-less
     loop-again
-    returns
-    returns-2)
+    returns)
