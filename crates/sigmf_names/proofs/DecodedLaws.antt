@@ -21,8 +21,8 @@ use Rattle.json_strings.proofs.DecodeLaws.{plain-whole, next-plain, stream-star
 use Rattle.sigmf_datatypes.proofs.Laws.{all-at}
 use Rattle.sigmf_datatypes.proofs.Laws.{all as every}
 use Rattle.sigmf_texts.specs.Texts.{nameText}
-use Rattle.sigmf_names.specs.DecodedCode.{directAt}
 use Rattle.sigmf_texts.proofs.FormLaws.{all-end, all-on, all-not}
+use Rattle.sigmf_names.specs.DecodedCode.{directAt}
 
 -- ---- a name of bytes that stand for themselves is its own decoded text
 all-every : (f : ℕ → Bool) (s : List ℕ) → all f s ≡ every f s
@@ -30,14 +30,19 @@ unfolding all every
 all-every f [] = refl
 all-every f (b ∷ s) = rw (all-every f s)
 
-itself : (s : List ℕ) → all ordinaryByte s ≡ true → nameText s ≡ s
-itself s e = plain-whole s (λ i h. let o = ordinary-is (getD s i 0) (all-at ordinaryByte s i 0 (sym (all-every ordinaryByte s) ∙ e) h) in (o .slash, o .quote))
+abbrev pub OrdinaryTo : List ℕ → ℕ → Type 0
+OrdinaryTo s i = (j : ℕ) → j < i → ordinaryByte (byte s j) ≡ true
 
--- every byte is ordinary
-whole : (s : List ℕ) → ((j : ℕ) → j < length s → ordinaryByte (byte s j) ≡ true) → all ordinaryByte s ≡ true
+each : (s : List ℕ) → all ordinaryByte s ≡ true → OrdinaryTo s (length s)
+each s e j l = all-at ordinaryByte s j 0 (sym (all-every ordinaryByte s) ∙ e) l
+
+itself : (s : List ℕ) → all ordinaryByte s ≡ true → nameText s ≡ s
+itself s e = plain-whole s (λ i h. let o = ordinary-is (byte s i) (each s e i h) in (o .slash, o .quote))
+
+all-ordinary : (s : List ℕ) → OrdinaryTo s (length s) → all ordinaryByte s ≡ true
 unfolding all
-whole [] h = refl
-whole (b ∷ s) h = rw (h 0 (omega arith)) (whole s (λ j l. h (suc j) (omega arith)))
+all-ordinary [] h = refl
+all-ordinary (b ∷ s) h = rw (h 0 (omega arith)) (all-ordinary s (λ j l. h (suc j) (omega arith)))
 
 -- ---- the bytes of a name from i on
 module _ (s : List ℕ) (i : ℕ) where
@@ -55,13 +60,7 @@ module _ (s : List ℕ) (i : ℕ) where
     verbatim-on q = all-on (drop i s) b _ head ordinaryByte q
 
 -- ---- in blocks of eight, the last one being that at the name's end
-abbrev pub OrdinaryTo : List ℕ → ℕ → Type 0
-OrdinaryTo s i = (j : ℕ) → j < i → ordinaryByte (byte s j) ≡ true
-
 module _ (s : List ℕ) where
-  each : all ordinaryByte s ≡ true → OrdinaryTo s (length s)
-  each e j l = all-at ordinaryByte s j 0 (sym (all-every ordinaryByte s) ∙ e) l
-
   pub blocks-on : (i : ℕ) → OrdinaryTo s i → blockAt ordinaryByte s i ≡ true → OrdinaryTo s (i + 8)
   blocks-on i u h j l = go (ltb j i) refl where
     go : (t : Bool) → ltb j i ≡ t → ordinaryByte (byte s j) ≡ true
@@ -73,11 +72,11 @@ module _ (s : List ℕ) where
     go : (t : Bool) → all ordinaryByte s ≡ t → false ≡ t
     go false e = refl
     go true e =
-        sym h ∙ rw (le-leb (i + 8) (length s) l) (all-of ordinaryByte s 8 i (λ j a b. each e j (omega arith)))
+        sym h ∙ rw (le-leb (i + 8) (length s) l) (all-of ordinaryByte s 8 i (λ j a b. each s e j (omega arith)))
 
   pub blocks-end : (i last : ℕ) → last + 8 ≡ length s → last ≤ i → OrdinaryTo s i → (r : Bool) → r ≡ blockAt ordinaryByte s last
       → r ≡ all ordinaryByte s
-  blocks-end i last e l u true q = sym (whole s (λ j m. go j m (ltb j i) refl)) where
+  blocks-end i last e l u true q = sym (all-ordinary s (λ j m. go j m (ltb j i) refl)) where
     go : (j : ℕ) → j < length s → (t : Bool) → ltb j i ≡ t → ordinaryByte (byte s j) ≡ true
     go j m true p = u j (ltb-true _ _ p)
     go j m false p =

@@ -45,7 +45,7 @@ known-formed O.Capture d h = known formOk captureFields d refl h
 known-formed O.Annotation d h = known formOk annotationFields d refl h
 
 -- ---- texts of two lengths are apart
-pub length-apart : (a b : List ℕ) → (length a ≡ length b → ⊥) → false ≡ same a b
+length-apart : (a b : List ℕ) → (length a ≡ length b → ⊥) → false ≡ same a b
 length-apart a b f = sym (same-ne a b (λ e. f (ap length e)))
 
 -- ---- looking a name d up among the names that have its length n: the place in the list, from k on
@@ -97,7 +97,7 @@ module _ (f : ℕ → Bool) (d : List ℕ) (h : f (length d) ≡ false) where
       let r = apart-from cs (and-right (f (length (coreName c))) _ e) in
       (rw (sym (length-apart d (coreName c) (λ q. a (sym q)))) (ap suc (r .0)), rw (ne-eqb _ _ a) (r .1))
 
-  pub none-of-length : (cs : List Core) → every (λ (c : Core). f (length (coreName c))) cs ≡ true
+  none-of-length : (cs : List Core) → every (λ (c : Core). f (length (coreName c))) cs ≡ true
       → _≡_ {A = NameLookup} (record { number = length cs; compared = 0 }) (lookupIn cs d)
   none-of-length cs e = let r = apart-from cs e in rw (r .0, r .1)
 

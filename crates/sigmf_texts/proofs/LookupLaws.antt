@@ -9,10 +9,6 @@ use lib.ListN.{length, getD, drop, drop-of-length-le}
 use Rattle.json_names.specs.Same.{same}
 use Rattle.sigmf_texts.specs.Lookup.{indexIn}
 
--- a number that is none of 0 .. n - 1, nor n, is above n
-pub past : (i n : ℕ) → n ≤ i → (i ≡ n → ⊥) → suc n ≤ i
-past i n h f = omega arith
-
 module _ {A : Type 0} (name : A → List ℕ) where
   -- a place is at most the length
   pub index-most : (xs : List A) (d : List ℕ) → indexIn name xs d ≤ length xs
