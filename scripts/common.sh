@@ -30,7 +30,7 @@ show() {
     printf '"'
 }
 
-# A refusal, in every command: document 01's number and sentence on standard error, exit status 1.
+# A refusal, in every command: document 01's number and sentence, for 13 with request P3's rule, on standard error, exit status 1.
 refuse() {
     case $1 in
     1) why="metadata empty or too long, or D above 2^48" ;;
@@ -45,7 +45,7 @@ refuse() {
     10) why="core:num_channels is 0 or above 1,024" ;;
     11) why="a core:datetime breaks its rule" ;;
     12) why="an extension entry is malformed" ;;
-    13) why="an extension is needed (none is known yet)" ;;
+    13) why="an extension is needed (none is known yet): an entry of core:extensions has \"optional\" false" ;;
     14) why="core:metadata_only is true, or present beside core:dataset" ;;
     15) why="captures or annotations not ascending by start" ;;
     16) why="headers and trailer exceed D, or the rest isn't whole samples" ;;

@@ -1,5 +1,5 @@
 /* The judge, the reader and the functions on tables in libexport.a, which `rt staticlib export` writes to target/staticlib/. Numbers of
-   refusal are document 01's.
+   refusal are document 01's, 13 as request P3 amends it: an extension is listed with `optional` false.
 
    In every call: each `_len` is that of the memory at the pointer before it, in bytes or numbers; no pointer is null, even where the
    length is 0; nobody writes the memory meanwhile, and memory that a call writes overlaps none of the rest. Output is written from the

@@ -79,7 +79,7 @@ fn types(part: &[u8]) -> Option<Vec<u64>> {
     Some(TYPES[..6].iter().map(|&kind| u64::from(fields::matches(part, &tree, tree.root, kind))).collect())
 }
 
-/// `x`: an extension entry is fine, malformed or needed.
+/// `x`: an extension entry may be ignored, is malformed or is needed.
 fn entry(part: &[u8]) -> Option<u64> {
     let tree = tree_of(part)?;
     if !fields::is_extension_entry(part, &tree, tree.root) {

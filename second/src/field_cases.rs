@@ -277,7 +277,7 @@ impl List {
 
     /// Extension entries of every form.
     fn entries(&mut self) {
-        for entry in BAD_ENTRIES.iter().chain(GOOD_ENTRIES).chain(VALUES) {
+        for entry in BAD_ENTRIES.iter().chain(IGNORED_ENTRIES).chain(NEEDED_ENTRIES).chain(VALUES) {
             self.add(b'x', entry);
         }
         for optional in ["true", "false"] {

@@ -251,8 +251,7 @@ pub fn is_extension_entry(text: &[u8], tree: &Tree, entry: NodeId) -> bool {
     members.len() == wanted.len() && wanted.iter().all(has)
 }
 
-/// "By the field table of document 000, `optional` true means the extension is
-/// needed."
+/// Request P3: "false means needed, true means it may be ignored".
 pub fn is_needed(tree: &Tree, entry: NodeId) -> bool {
-    tree.get(entry, b"optional").is_some_and(|v| tree.node(v).kind == Kind::True)
+    tree.get(entry, b"optional").is_some_and(|v| tree.node(v).kind == Kind::False)
 }

@@ -178,11 +178,15 @@ fn texts() -> Vec<ReadingCase> {
 
 /// Extension entries of every form, alone and in lists.
 fn extensions() -> Vec<ReadingCase> {
-    let mut lists: Vec<String> = BAD_ENTRIES.iter().chain(GOOD_ENTRIES).map(|e| format!("[{e}]")).collect();
-    let (calm, needed) = (GOOD_ENTRIES[0], GOOD_ENTRIES[6]);
-    lists.extend([format!("[{needed},5]"), format!("[{needed},{calm}]"), format!("[{calm},{needed}]"), format!("[{calm},{calm},{calm}]"), "[]".to_string()]);
-    lists.push(r#"[{"name":"a","version":"b","optional":true,"name":"a"}]"#.to_string());
-    lists.push(r#"[{"name":"a","version":"b","optional":true,"\u006eame":"a"}]"#.to_string());
+    let (ignored, needed) = (IGNORED_ENTRIES[0], NEEDED_ENTRIES[0]);
+    let mut lists: Vec<String> = BAD_ENTRIES.iter().chain(IGNORED_ENTRIES).chain(NEEDED_ENTRIES).map(|e| format!("[{e}]")).collect();
+    lists.extend([format!("[{needed},5]"), format!("[5,{needed}]"), format!("[{ignored},5]"), format!("[{ignored},{needed}]")]);
+    lists.extend([format!("[{needed},{ignored}]"), format!("[{ignored},{needed},{ignored}]"), format!("[{ignored},{ignored},{ignored}]"), "[]".to_string()]);
+    for member in [r#""name":"a""#, r#""\u006eame":"a""#, r#""optional":true"#, r#""optional":false"#] {
+        for optional in ["true", "false"] {
+            lists.push(format!(r#"[{{"name":"a","version":"b","optional":{optional},{member}}}]"#));
+        }
+    }
     let mut list: Vec<ReadingCase> = lists.iter().map(|l| case(&with_member(Place::Global, &format!(r#""core:extensions":{l}"#)), 1)).collect();
     list.push(case(&with_member(Place::Capture, r#""core:extensions":[5]"#), 1));
     for (only, dataset) in [("true", ""), ("false", ""), ("false", r#","core:dataset":"""#), ("true", r#","core:dataset":"x""#), ("null", "")] {

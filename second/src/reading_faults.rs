@@ -52,7 +52,7 @@ pub const FAULTS: &[(u64, Fault)] = &[
     (10, Parts(|p, r| p.set(("global", 0), "core:num_channels", raw(r.pick(BAD_CHANNELS))))),
     (11, Parts(|p, r| set_in(p, "captures", "core:datetime", quoted(r.pick(BAD_DATETIMES)), r))),
     (12, Parts(|p, r| add_entry(p, raw(r.pick(BAD_ENTRIES)), r))),
-    (13, Parts(|p, r| { let needed = entry("true", r); add_entry(p, needed, r) })),
+    (13, Parts(|p, r| { let needed = entry("false", r); add_entry(p, needed, r) })),
     (14, Parts(|p, _| p.set(("global", 0), "core:metadata_only", raw("true")))),
     (14, Parts(metadata_beside)),
     (15, Parts(unsorted)),

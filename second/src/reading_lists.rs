@@ -142,15 +142,23 @@ pub const BAD_ENTRIES: &[&str] = &[
     r#"{"name":"a","version":"b","optional":true,"Name":"a"}"#,
 ];
 
-/// Extension entries that are well formed: not needed, then needed.
-pub const GOOD_ENTRIES: &[&str] = &[
+/// Well-formed extension entries that may be ignored; the first is document
+/// 000's.
+pub const IGNORED_ENTRIES: &[&str] = &[
+    r#"{"name":"extension-01","version":"0.0.5","optional":true}"#,
+    r#"{"name":"a","version":"b","optional":true}"#, r#"{"optional":true,"name":"","version":""}"#,
+    r#"{"n\u0061me":"a","\u0076ersion":"b","\u006fptional":true}"#,
+    r#"{ "name" : "a\"b" ,"version":"\\", "optional" : true }"#,
+    r#"{"version":"false","optional":true,"name":"false"}"#, r#"{"name":"a",
+"version":"b","optional":	true}"#,
+];
+
+/// Extension entries that are needed; the first is document 000's.
+pub const NEEDED_ENTRIES: &[&str] = &[
+    r#"{"name":"extension-02","version":"1.2.3","optional":false}"#,
     r#"{"name":"a","version":"b","optional":false}"#, r#"{"name":"","version":"","optional":false}"#,
     r#"{"optional":false,"version":"1.0.0","name":"antenna"}"#,
     r#"{"n\u0061me":"a","\u0076ersion":"b","\u006fptional":false}"#,
     r#"{ "name" : "a\"b" ,"version":"\\", "optional" : false }"#,
     r#"{"version":"true","name":"optional","optional":false}"#,
-    r#"{"name":"a","version":"b","optional":true}"#, r#"{"optional":true,"name":"","version":""}"#,
-    r#"{"name":"a","version":"b","\u006fptional":true}"#,
-    r#"{"version":"false","optional":true,"name":"false"}"#, r#"{"name":"a",
-"version":"b","optional":	true}"#,
 ];

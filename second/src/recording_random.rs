@@ -148,7 +148,7 @@ fn good_value(kind: Type, name: &str, rng: &mut Rng) -> Part {
         Type::Double => raw(String::from_utf8(good_number(rng)).unwrap_or_default()),
         Type::Boolean => raw("false"),
         Type::Object => Part::Object(vec![("type".to_string(), raw("\"Point\"")), ("9".to_string(), hostile(4, rng))]),
-        Type::Array => Part::List((0..rng.below(3)).map(|_| entry("false", rng)).collect()),
+        Type::Array => Part::List((0..rng.below(3)).map(|_| entry("true", rng)).collect()),
         Type::Any => hostile(3, rng),
     }
 }

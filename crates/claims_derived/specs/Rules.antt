@@ -1,4 +1,4 @@
--- Document 01's refusals 3 to 17 and the numbers of the table, said of a derivation t of the text by ECMA-404's grammar.
+-- Document 01's refusals 3 to 17, 13 as request P3 amends it, and the numbers of the table, said of a derivation t of the text by ECMA-404's grammar.
 use mathlib.Core.Bool.{Bool, true, false, cond, not, _&&_, _||_}
 use mathlib.Core.List.{List, [], _∷_, map}
 use mathlib.Core.Option.{Option, none, some}
@@ -165,7 +165,7 @@ badDatetime c = given false (λ n. isNone (datetimeOf (textIn (kind n)))) (value
 abbrev pub has : FieldType → String → List Entry → Bool
 has t n es = given false (λ m. isA t (kind m)) (value n es)
 
--- "`optional` true means the extension is needed"
+-- request P3: "false means needed, true means it may be ignored"
 unfoldable pub entryBy : List Entry → Extension
 entryBy es =
     cond (eqb (length es) 3 && (has T.Text "name" es && (has T.Text "version" es && has T.Boolean "optional" es)))

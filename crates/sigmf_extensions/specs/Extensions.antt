@@ -1,4 +1,4 @@
--- Extension entries (document 01, "Fields"). p is the part of the text that holds the entry.
+-- Extension entries (document 01, "Fields", as request P3 amends it). p is the part of the text that holds the entry.
 use mathlib.Core.Bool.{Bool, true, false, cond, not, _&&_}
 use mathlib.Core.List.{List, [], _∷_, map}
 use Prim.Native.Nat.{ℕ, _+_}
@@ -50,14 +50,15 @@ noMembers = record { names = 0; versions = 0; optionals = 0; trues = 0; others =
 abbrev pub tallyOf : List ℕ → Tally
 tallyOf p = tallyFrom p noMembers (membersAt p 0)
 
--- "By the field table of document 000, `optional` true means the extension is needed."
+-- request P3: "false means needed, true means it may be ignored"
 abbrev pub neededIf : Bool → Bool
-neededIf optional = optional
+neededIf optional = not optional
 
 -- "an object with exactly" one of each, and no other member
 abbrev pub exactly : Tally → Bool
 exactly t = eqb (t .names) 1 && eqb (t .versions) 1 && eqb (t .optionals) 1 && eqb (t .others) 0
 
+-- of an entry with one `optional`
 abbrev pub needed : Tally → Bool
 needed t = neededIf (eqb (t .trues) 1)
 
@@ -73,7 +74,8 @@ extensionRefusal E.Malformed = 12
 extensionRefusal E.Needed = 13
 extensionRefusal E.Ignored = 0
 
--- 12: "an extension entry is malformed"; 13: "an extension is needed (none is known yet)"
+-- 12: "an extension entry is malformed"; 13: "an extension is needed (none is known yet)". Of a malformed entry both may hold:
+-- 12 is told.
 abbrev pub extensionRules : List ℕ → List Rule
 extensionRules p = rule 12 (not (hasType T.Object p && exactly (tallyOf p))) ∷ rule 13 (needed (tallyOf p)) ∷ []
 

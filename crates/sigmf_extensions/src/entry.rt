@@ -117,11 +117,11 @@ pub(crate) fn tally(part: &[u8]) -> Tally
     }
 }
 
-// An extension with this value of optional is needed.
+// Whether an extension with this value of optional is needed.
 pub(crate) fn is_needed(optional: bool) -> bool
     ensures { λ r. ⌜ r ≡ neededIf optional ⌝ }
 {
-    optional
+    !optional
 }
 
 pub(crate) fn judge(t: Tally) -> Extension

@@ -45,9 +45,9 @@ fn answer_lines() {
     assert_eq!(line('k', "1"), "k 0 1 1 0 0 0");
     assert_eq!(line('k', "-0"), "k 0 0 1 0 0 0");
     assert_eq!(line('k', "null"), "k 0 0 0 0 0 0");
-    assert_eq!(line('x', r#"{"name":"","optional":false,"version":""}"#), "x 0");
-    assert_eq!(line('x', r#"{"name":"","optional":true,"version":""}"#), "x 13");
-    assert_eq!(line('x', r#"{"name":"","optional":true,"version":1}"#), "x 12");
+    assert_eq!(line('x', r#"{"name":"","optional":true,"version":""}"#), "x 0");
+    assert_eq!(line('x', r#"{"name":"","optional":false,"version":""}"#), "x 13");
+    assert_eq!(line('x', r#"{"name":"","optional":false,"version":1}"#), "x 12");
 }
 
 /// The count alone: how many core names of the kind were compared.

@@ -1,6 +1,7 @@
 use super::{meta, open, refusal, with, EXAMPLE, G};
 use crate::json_cases::nest;
 use crate::reader::read;
+use crate::reading_lists::{IGNORED_ENTRIES, NEEDED_ENTRIES};
 use crate::table::Summary;
 
 #[test]
@@ -37,9 +38,8 @@ fn order_of_refusals() {
     let text = meta(r#""core:datatype":5,"core:version":"1.0.0""#, "", "{$s:0},{}");
     assert_eq!(refusal(&text, 0), 6);
     assert_eq!(refusal(&meta(r#""core:datatype":"x","core:version":"y""#, "", ""), 0), 8);
-    let needed = r#"{"name":"a","version":"1","optional":true}"#;
-    assert_eq!(refusal(&with(&format!(r#""core:extensions":[{needed},5]"#)), 0), 12);
-    assert_eq!(refusal(&with(&format!(r#""core:extensions":[{needed}]"#)), 0), 13);
+    let needed = r#"{"name":"a","version":"1","optional":false}"#;
+    assert_eq!(refusal(&with(&format!(r#""core:metadata_only":true,"core:extensions":[{needed}]"#)), 0), 13);
     assert_eq!(refusal(&meta(G, "{$s:1},{$s:0,$h:9}", ""), 1), 15);
     assert_eq!(refusal(r#"[{"a":1,"\u0061":2}]"#, 0), 3);
     assert_eq!(refusal("{", (1 << 48) + 1), 1);
@@ -143,19 +143,32 @@ fn version_datatype_channels() {
 }
 
 #[test]
-fn datetime_extension_metadata_only() {
+fn extensions() {
+    let list = |text: &str| refusal(&with(&format!(r#""core:extensions":[{text}]"#)), 0);
+    let entry = |optional: &str| format!(r#"{{"name":"a","version":"",{optional}}}"#);
+    let (ignored, needed) = (entry(r#""optional":true"#), entry(r#""optional":false"#));
+    assert_eq!((list(""), list(&ignored), list(&needed)), (0, 0, 13));
+    assert_eq!((list(&format!("{ignored},{needed}")), list(&format!("{needed},{ignored}"))), (13, 13));
+    // A needed one beside a malformed one, in either order.
+    assert_eq!((list(&format!("{needed},5")), list(&format!("5,{needed}")), list("5")), (12, 12, 12));
+    assert_eq!((list(&entry(r#""\u006fptional":true"#)), list(&entry(r#""\u006fptional":false"#))), (0, 13));
+    for malformed in [r#""optional":null"#, r#""optional":"true""#, r#""optional":true,"x":1"#, r#""Optional":true"#, r#""x":true"#] {
+        assert_eq!(list(&entry(malformed)), 12, "{malformed}");
+    }
+    assert_eq!(list(r#"{"name":"a","version":""}"#), 12);
+    for twice in [r#""optional":true,"name":"a""#, r#""optional":true,"optional":true"#, r#""optional":false,"optional":true"#] {
+        assert_eq!(list(&entry(twice)), 3, "{twice}");
+    }
+    // Document 000's example: `extension-01` is used and not necessary, `extension-02` is necessary.
+    let (one, two) = (IGNORED_ENTRIES[0], NEEDED_ENTRIES[0]);
+    assert_eq!((list(one), list(two), list(&format!("{one},{two}"))), (0, 13, 13));
+}
+
+#[test]
+fn datetime_metadata_only() {
     let at = |text: &str| meta(G, &format!(r#"{{$s:0,"core:datetime":"{text}"}}"#), "");
     assert_eq!(refusal(&at("2020-02-28T23:59:60Z"), 0), 11);
     assert_eq!(refusal(&at(r"\u0032020-02-29T23:59:60Z"), 0), 0);
-    let entry = |text: &str| with(&format!(r#""core:extensions":[{text}]"#));
-    assert_eq!(refusal(&entry(""), 0), 0);
-    assert_eq!(refusal(&entry("5"), 0), 12);
-    assert_eq!(refusal(&entry(r#"{"name":"","version":"","optional":false}"#), 0), 0);
-    assert_eq!(refusal(&entry(r#"{"name":"a","version":"","\u006fptional":true}"#), 0), 13);
-    assert_eq!(refusal(&entry(r#"{"name":"a","version":"","optional":"true"}"#), 0), 12);
-    assert_eq!(refusal(&entry(r#"{"name":"a","version":"","optional":false,"x":1}"#), 0), 12);
-    assert_eq!(refusal(&entry(r#"{"name":"a","version":"","optional":false,"name":"a"}"#), 0), 3);
-    assert_eq!(refusal(&entry(r#"{"name":"a","version":"","Optional":false}"#), 0), 12);
     assert_eq!(refusal(&with(r#""core:metadata_only":false"#), 0), 0);
     assert_eq!(refusal(&with(r#""core:metadata_only":true"#), 0), 14);
     assert_eq!(refusal(&with(r#""core:metadata_only":false,"core:dataset":"x""#), 0), 14);
