@@ -1,5 +1,6 @@
 /* The judge, the reader and the functions on tables in libexport.a, which `rt staticlib export` writes to target/staticlib/. Numbers of
-   refusal are document 01's, 13 as request P3 amends it: an extension is listed with `optional` false.
+   refusal are document 01's, 13 as request P3 amends it: an extension is listed with `optional` false; 9 is a datatype that is none of
+   those below.
 
    In every call: each `_len` is that of the memory at the pointer before it, in bytes or numbers; no pointer is null, even where the
    length is 0; nobody writes the memory meanwhile, and memory that a call writes overlaps none of the rest. Output is written from the
@@ -17,7 +18,9 @@
 extern "C" {
 #endif
 
-/* The twelve numbers of a table. */
+/* The twelve numbers of a table. `datatype` is a code: 0 to 11 are rf32_le, rf32_be, ri32_le, ri32_be, ri16_le, ri16_be, ru32_le, ru32_be,
+   ru16_le, ru16_be, ri8, ru8; 12 to 23 the same with c for r; 24 to 27 are rf64_le, rf64_be, cf64_le, cf64_be. `width` is W, the bytes of a
+   sample in all channels, at most 16,384. */
 struct summary {
     uint64_t refusal;
     uint64_t datatype;

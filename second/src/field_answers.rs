@@ -14,7 +14,7 @@ pub const KINDS: [(u8, Place); 3] = [(b'g', Place::Global), (b'c', Place::Captur
 pub fn answer(case: &Case) -> Option<String> {
     let numbers = match case.letter {
         b'u' => uint(&case.payload),
-        b'd' => Some(vec![fields::datatype_code(&text(&case.payload)?).unwrap_or(24)]),
+        b'd' => Some(vec![fields::datatype_code(&text(&case.payload)?).unwrap_or_else(fields::datatype_count)]),
         b'v' => Some(vec![u64::from(text(&case.payload)? == b"1.0.0")]),
         b'm' => Some(datetime(&text(&case.payload)?)),
         b'n' => Some(name(&decode_body(&case.payload)?)),

@@ -141,8 +141,8 @@ pub fn matches(text: &[u8], tree: &Tree, value: NodeId, wanted: Type) -> bool {
     }
 }
 
-/// The 24 datatypes in the order of their codes: "codes 0 to 11 with `r`
-/// before: f32_le, ... Codes 12 to 23 the same with `c`."
+/// The datatypes in the order of their codes: "codes 0 to 11 with `r` before:
+/// f32_le, ... Codes 12 to 23 the same with `c`." Then request P4's four.
 pub fn datatypes() -> Vec<String> {
     let mut names = Vec::new();
     for letter in ["r", "c"] {
@@ -154,7 +154,13 @@ pub fn datatypes() -> Vec<String> {
         names.push(format!("{letter}i8"));
         names.push(format!("{letter}u8"));
     }
+    names.extend(["rf64_le", "rf64_be", "cf64_le", "cf64_be"].map(String::from));
     names
+}
+
+/// How many datatypes are listed.
+pub fn datatype_count() -> u64 {
+    datatypes().len() as u64
 }
 
 /// The code of a datatype's decoded text: "the texts of datatype, version and

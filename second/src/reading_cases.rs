@@ -159,12 +159,12 @@ fn texts() -> Vec<ReadingCase> {
         list.push(case(&global(datatype, "1.0.0", ""), 3));
     }
     for (k, name) in datatypes().iter().enumerate() {
-        list.push(case(&global(name, "1.0.0", ""), 40));
+        list.push(case(&global(name, "1.0.0", ""), 80));
         let escaped: String = name.bytes().map(|b| format!("\\u{b:04x}")).collect();
-        list.push(case(&global(&escaped, "1.0.0", &format!(r#","core:num_channels":{}"#, k + 1)), 40 * (k as u64 + 1)));
+        list.push(case(&global(&escaped, "1.0.0", &format!(r#","core:num_channels":{}"#, k + 1)), 80 * (k as u64 + 1)));
     }
     for channels in BAD_CHANNELS.iter().chain(&["1", "2", "3", "1023", "1024"]) {
-        for (datatype, d) in [("ru8", 6_144), ("cf32_be", 8_192), ("ci16_le", 0)] {
+        for (datatype, d) in [("ru8", 6_144), ("cf32_be", 8_192), ("cf64_le", 16_384), ("cf64_be", 8_192), ("ci16_le", 0)] {
             list.push(case(&global(datatype, "1.0.0", &format!(r#","core:num_channels":{channels}"#)), d));
         }
     }

@@ -33,8 +33,12 @@ fn lengths() -> Vec<ReadingCase> {
     list.push(case(&padded("", 61_440), 7));
     for d in [(1 << 48) - 1, 1 << 48, (1 << 48) + 1, 1 << 49, 1 << 63, u64::MAX] {
         list.push(case(&text, d));
-        let wide = r#""core:datatype":"cf32_le","core:version":"1.0.0","core:num_channels":1024"#;
-        list.push(case(&meta(wide, "{$s:0},{$s:34359738368}", ""), d));
+        for (datatype, end) in [("cf32_le", 34_359_738_368u64), ("rf64_be", 34_359_738_368), ("cf64_le", 17_179_869_184)] {
+            let wide = format!(r#""core:datatype":"{datatype}","core:version":"1.0.0","core:num_channels":1024"#);
+            for start in [end, end + 1] {
+                list.push(case(&meta(&wide, &format!("{{$s:0}},{{$s:{start}}}"), ""), d));
+            }
+        }
         list.push(case(&meta(&format!(r#"{G},"core:trailing_bytes":{d}"#), "{$s:0}", ""), d));
         list.push(case(&meta(G, &format!("{{$s:0,$h:{d}}}"), ""), d));
     }
@@ -170,7 +174,7 @@ fn sizes() -> Vec<ReadingCase> {
             list.push(case(&meta(&format!(r#"{G},"core:trailing_bytes":{t}"#), &captures.join(","), ""), d));
         }
     }
-    for (datatype, d) in [("ri16_le", 9), ("ri16_le", 10), ("ci32_be", 16), ("ci32_be", 17), ("ci32_be", 7), ("cu8", 1), ("cf32_le", 24)] {
+    for (datatype, d) in [("ri16_le", 9), ("ri16_le", 10), ("ci32_be", 16), ("ci32_be", 17), ("ci32_be", 7), ("cu8", 1), ("cf32_le", 24), ("rf64_le", 24), ("cf64_be", 48), ("cf64_be", 24)] {
         let global = format!(r#""core:datatype":"{datatype}","core:version":"1.0.0","core:num_channels":3"#);
         for (t, h) in [(0, 0), (1, 0), (0, 1), (3, 4)] {
             let global = format!(r#"{global},"core:trailing_bytes":{t}"#);

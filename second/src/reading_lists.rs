@@ -84,7 +84,7 @@ pub const BAD_VERSIONS: &[&str] = &[
 
 /// Bodies of datatypes that are not listed.
 pub const BAD_DATATYPES: &[&str] = &[
-    "", "i16_le", "ri8_le", "ri8_be", "cu8_le", "RU8", "Ru8", "rf64_le", "cf64_be", "ru8 ", " ru8", "cf32", "rf32",
+    "", "i16_le", "ri8_le", "ri8_be", "cu8_le", "RU8", "Ru8", "rf64", "cf64", "rf64_LE", "f64_le", "CF64_be", "rf64_me", "rf46_le", "ru8 ", " ru8", "cf32", "rf32",
     "ri16", "cf32_LE", "rf32_l", "rf32_lee", "cf32le", "r", "c",
     "ru", "ru88", "xu8", "ri64_le", "ci24_le", "rf16_le", "ru8\\u0000", "\\u0052u8", "cf32-le", "ri32_ba", "bu8", "rb8",
     "ru\\\\u0038", "crf32_le", "null", "11",

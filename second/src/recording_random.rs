@@ -1,6 +1,6 @@
 //! Random recordings that are accepted, with hostile texts in them.
 
-use crate::fields::{core_fields, days_in, Place, Type};
+use crate::fields::{core_fields, datatypes, days_in, Place, Type};
 use crate::json_cases::nest;
 use crate::json_random::{good_number, random_chars, spell};
 use crate::part::{raw, Member, Part};
@@ -12,9 +12,14 @@ use crate::table_random::starts;
 pub const PLACES: [(&str, Place); 3] =
     [("global", Place::Global), ("captures", Place::Capture), ("annotations", Place::Annotation)];
 
+/// Any listed code.
+pub fn random_code(rng: &mut Rng) -> u64 {
+    rng.below(datatypes().len()) as u64
+}
+
 /// Random numbers of a recording; its rows mostly few, its dataset mostly short.
 pub fn random_plan(rng: &mut Rng) -> Plan {
-    let mut plan = Plan { code: rng.below(24) as u64, channels: [1, 1, 1, 2, 5, 1_023, 1_024][rng.below(7)], ..Plan::default() };
+    let mut plan = Plan { code: random_code(rng), channels: [1, 1, 1, 2, 5, 1_023, 1_024][rng.below(7)], ..Plan::default() };
     plan.samples = match rng.below(10) {
         0 => 0,
         1 => rng.bits() % ((1 << 47) / plan.width()),

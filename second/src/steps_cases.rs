@@ -126,9 +126,11 @@ impl List {
                 self.ranges(&many, &[(5, 29), (low, high), (low + 1, high - 1), (10, 20), (low, high)]);
             }
         }
-        let wide = r#""core:datatype":"cf32_le","core:version":"1.0.0","core:num_channels":2"#;
-        let text = meta(wide, "{$s:0,$h:7},{$s:4,$h:1},{$s:6}", "{$s:1,$c:5}");
-        self.ranges(&open(&text, 8 + 160), &[(1, 9), (3, 5), (4, 5)]);
+        for (datatype, width) in [("cf32_le", 16), ("cf64_le", 32), ("rf64_be", 16)] {
+            let wide = format!(r#""core:datatype":"{datatype}","core:version":"1.0.0","core:num_channels":2"#);
+            let text = meta(&wide, "{$s:0,$h:7},{$s:4,$h:1},{$s:6}", "{$s:1,$c:5}");
+            self.ranges(&open(&text, 8 + 10 * width), &[(1, 9), (3, 5), (4, 5)]);
+        }
     }
 
     /// Offsets near 2^64.

@@ -2,7 +2,7 @@
 
 use crate::part::{raw, written, Style};
 use crate::recording::Plan;
-use crate::recording_random::label;
+use crate::recording_random::{label, random_code};
 use crate::rng::Rng;
 use crate::steps::{run_step, State, Step};
 use crate::steps_case::{StepsCase, BYTES_MAX, NUMBERS_MAX};
@@ -26,7 +26,7 @@ pub fn random_case(rng: &mut Rng) -> StepsCase {
 
 /// A table whose dataset is short, by the reader.
 pub fn random_table(rng: &mut Rng) -> State {
-    let mut plan = Plan { code: rng.below(24) as u64, channels: [1, 1, 2, 3, 8][rng.below(5)], ..Plan::default() };
+    let mut plan = Plan { code: random_code(rng), channels: [1, 1, 2, 3, 8][rng.below(5)], ..Plan::default() };
     plan.samples = rng.below(61) as u64 % (1_500 / plan.width() + 1);
     plan.offset = match rng.below(5) {
         0 | 1 => 0,

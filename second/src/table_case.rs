@@ -14,7 +14,7 @@ pub const COPY: u64 = 4;
 /// The most numbers of a lent memory.
 pub const NUMBERS_MAX: u64 = 512;
 /// The most bytes of a lent dataset or output.
-pub const BYTES_MAX: u64 = 4_096;
+pub const BYTES_MAX: u64 = 65_536;
 
 /// A table handed in, and what is asked of it.
 #[derive(Clone, PartialEq, Eq, Debug)]

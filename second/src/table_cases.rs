@@ -1,6 +1,8 @@
 //! Fixed edge cases about tables, and the whole stream with random ones after.
 
+use crate::fields::{datatype_count, datatypes, sample_width};
 use crate::frames::Case;
+use crate::reading_cases::meta;
 use crate::rng::{filled_up, Rng};
 use crate::steps::State;
 use crate::table_case::{TableCase, BYTES_MAX, COPY, CUT, LOCATE, PIECES, WELL_FORMED};
@@ -26,6 +28,7 @@ pub fn fixed_cases() -> Vec<TableCase> {
     list.places();
     list.cuts();
     list.copies();
+    list.double_precision();
     list.forged();
     list.0
 }
@@ -248,7 +251,46 @@ impl List {
             }
         }
         let largest = bytes_table(0, 0, BYTES_MAX, &[(9, 6)], &[]);
-        self.add(COPY, &largest, (0, 4_090), &[BYTES_MAX, BYTES_MAX]);
+        self.add(COPY, &largest, (0, BYTES_MAX - 6), &[BYTES_MAX, BYTES_MAX]);
+    }
+
+    /// Request P4's datatypes, with samples of up to 16,384 bytes and as many of them as D = 2^48 holds.
+    fn double_precision(&mut self) {
+        for (code, name) in datatypes().iter().enumerate().filter(|(_, name)| name.contains("f64")) {
+            for channels in [2, 1_024] {
+                let width = sample_width(code as u64, channels).unwrap_or_default() as u64;
+                let global = format!(r#""core:datatype":"{name}","core:version":"1.0.0","core:num_channels":{channels}"#);
+                self.copied(&open(&meta(&global, "{$s:0},{$s:2,$h:5}", "{$s:1,$c:2}"), 5 + 3 * width));
+                if channels == 2 {
+                    self.other_codes(width);
+                    continue;
+                }
+                self.edges(&open(&meta(&global, "{$s:0}", "{$s:1}"), 1 << 48));
+                let offset = u64::MAX - ((1 << 48) / width - 1);
+                let far = format!(r#"{global},"core:offset":{offset},"core:trailing_bytes":{}"#, width - 5);
+                self.edges(&open(&meta(&far, &format!("{{$s:{},$h:5}}", u64::MAX), ""), 1 << 48));
+            }
+        }
+    }
+
+    /// Three samples and where they lie; copies of some of them, with just enough room and one byte less.
+    fn copied(&mut self, state: &State) {
+        self.table(state, &[0, 1, 2, 3]);
+        for (a, b) in [(0, 1), (1, 2), (2, 3), (0, 2), (1, 3), (0, 3)] {
+            for room in [(b - a) * state.summary.width, (b - a) * state.summary.width - 1] {
+                self.add(COPY, state, (a, b), &[state.summary.dataset, room]);
+            }
+        }
+    }
+
+    /// Every code, and the first that is not listed, with two channels and a W.
+    fn other_codes(&mut self, width: u64) {
+        let mut state = bytes_table(0, 0, 4 * width, &[], &[]);
+        (state.summary.channels, state.summary.width, state.summary.samples) = (2, width, 4);
+        for code in 0..=datatype_count() {
+            state.summary.code = code;
+            self.table(&state, &[]);
+        }
     }
 
     /// Every change of the example and of a fuller table.

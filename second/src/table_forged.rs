@@ -1,6 +1,6 @@
 //! Tables with one rule broken, or just kept.
 
-use crate::fields::sample_width;
+use crate::fields::{datatype_count, sample_width};
 use crate::rng::Rng;
 use crate::steps::State;
 
@@ -11,10 +11,10 @@ pub type Forgery = fn(&mut State, &mut Rng);
 pub const FORGERIES: &[Forgery] = &[
     |s, r| s.summary.refusal = r.between(1, 20) as u64,
     |s, _| s.summary.refusal = u64::MAX,
-    |s, _| s.summary.code = 24,
+    |s, _| s.summary.code = datatype_count(),
     |s, _| s.summary.code = u64::MAX,
-    |s, r| s.summary.code += 24 * (1 << r.below(55)),
-    |s, r| s.summary.code = (s.summary.code + r.between(1, 23) as u64) % 24,
+    |s, r| s.summary.code += datatype_count() * (1 << r.below(55)),
+    |s, r| s.summary.code = (s.summary.code + r.between(1, datatype_count() as usize - 1) as u64) % datatype_count(),
     |s, _| s.summary.channels = 0,
     |s, _| with_channels(s, 0),
     |s, _| with_channels(s, 1_024),

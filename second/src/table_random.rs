@@ -2,6 +2,7 @@
 
 use crate::fields::{datatype_name, sample_width};
 use crate::reader::read;
+use crate::recording_random::random_code;
 use crate::rng::Rng;
 use crate::steps::State;
 use crate::table::{cut, pieces, Table};
@@ -145,7 +146,7 @@ pub fn range_inside(state: &State, rng: &mut Rng) -> (u64, u64) {
 
 /// An honest table, by the reader from a random text.
 fn random_table(rng: &mut Rng) -> State {
-    let code = rng.below(24) as u64;
+    let code = random_code(rng);
     let channels = [1, 1, 1, 1, 2, 3, 7, 16, 1_024][rng.below(9)];
     let width = sample_width(code, channels).unwrap_or(1) as u64;
     let samples = match rng.below(12) {

@@ -52,5 +52,5 @@ pub fn byte_memory(size: u64) -> Vec<u8> {
 
 /// The bytes of a dataset of a length.
 pub fn dataset_bytes(length: u64) -> Vec<u8> {
-    (0..length).map(|k| ((k * 7 + 3) % 256) as u8).collect()
+    (0..length).map(|k| ((k * 7 + 3) % 251) as u8).collect()
 }

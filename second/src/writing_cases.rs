@@ -253,6 +253,8 @@ impl List {
             let text = meta(&global, "", "");
             self.rooms(&open(&text, 0), text.as_bytes());
         }
+        let text = meta(r#""core:datatype":"cf64_le","core:version":"1.0.0","core:num_channels":1024"#, "{$s:17179869184}", "{$s:0}");
+        self.rooms(&open(&text, 1 << 48), text.as_bytes());
     }
 
     /// None, one, some and many rows of either kind; more lent than counted.

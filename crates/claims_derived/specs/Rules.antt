@@ -1,4 +1,4 @@
--- Document 01's refusals 3 to 17, 13 as request P3 amends it, and the numbers of the table, said of a derivation t of the text by ECMA-404's grammar.
+-- Document 01's refusals 3 to 17, 9 with request P4's list and 13 as request P3 amends it, and the numbers of the table, said of a derivation t of the text by ECMA-404's grammar.
 use mathlib.Core.Bool.{Bool, true, false, cond, not, _&&_, _||_}
 use mathlib.Core.List.{List, [], _∷_, map}
 use mathlib.Core.Option.{Option, none, some}

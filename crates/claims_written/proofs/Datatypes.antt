@@ -3,12 +3,14 @@ use mathlib.Core.Path.{_≡_, refl, ap, _∙_}
 use mathlib.Core.Bool.{Bool, true, false, _&&_}
 use Prim.Native.Nat.{ℕ, zero, suc, _<_}
 use native.Mathlib.Omega.{arith}
+use lib.ListN.{length}
 use lib.Dec.{eqb}
 use borrow.Author.Tests.{eqb-true, eqb-false, ltb-true}
 use Rattle.json_blocks.specs.TextBytes.{within}
 use Rattle.json_blocks.specs.Lists.{all}
 use Rattle.json_names.specs.Same.{same}
-use Rattle.sigmf_datatypes.specs.Datatypes.{isListed, datatypes, twelve, datatypeOf, datatypeName}
+use Rattle.sigmf_datatypes.specs.Datatypes.{Datatype, isListed, datatypes, twelve, datatypeOf, datatypeName}
+use Rattle.sigmf_datatypes.proofs.Laws.{at-every}
 use Rattle.sigmf_texts.specs.Lookup.{indexIn}
 use Rattle.sigmf_texts.specs.Texts.{codeOf}
 use Rattle.table.proofs.Bools.{and-left, and-right}
@@ -27,10 +29,10 @@ below-at f (suc n) k e h = go (eqb k n) refl (λ l. below-at f n k (and-right (f
   go true q g = ap f (eqb-true k n q) ∙ and-left (f n) (below f n) e
   go false q g = g (let z = eqb-false k n q in omega arith)
 
-pub name-plain : (c : ℕ) → isListed c ≡ true → all ordinary (datatypeName c) ≡ true
-unfolding isListed datatypes twelve datatypeOf below all ordinary within
-name-plain c h = below-at (λ k. all ordinary (datatypeName k)) 24 c refl (ltb-true c 24 h)
+pub name-plain : (c : ℕ) → all ordinary (datatypeName c) ≡ true
+unfolding datatypes twelve all ordinary within
+name-plain c = at-every (λ (d : Datatype). all ordinary (d .name)) refl refl c
 
 pub code-back : (c : ℕ) → isListed c ≡ true → codeOf (datatypeName c) ≡ c
 unfolding isListed datatypes twelve datatypeOf below indexIn same
-code-back c h = eqb-true _ _ (below-at (λ k. eqb (codeOf (datatypeName k)) k) 24 c refl (ltb-true c 24 h))
+code-back c h = eqb-true _ _ (below-at (λ k. eqb (codeOf (datatypeName k)) k) (length datatypes) c refl (ltb-true c (length datatypes) h))

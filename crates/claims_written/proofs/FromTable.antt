@@ -13,7 +13,7 @@ use Rattle.json_blocks.specs.TextBytes.{ascii, within}
 use Rattle.json_blocks.specs.Lists.{all}
 use Rattle.json_grammar.specs.Grammar.{Number, Characters}
 use Rattle.json_strings.proofs.Theorem.{body-is-characters}
-use Rattle.sigmf_datatypes.specs.Datatypes.{isListed, datatypeName}
+use Rattle.sigmf_datatypes.specs.Datatypes.{datatypeName}
 use Rattle.table.specs.declared.Place.{Place}
 use Rattle.table.specs.declared.Capture.{Capture}
 use Rattle.table.specs.declared.Annotation.{Annotation}
@@ -139,11 +139,11 @@ notes-text s nothing = refl
 notes-text s (next {a = r} {b = n} p ps) = rw (note-text s r n p, notes-text s ps)
 
 -- ---- the plan
-module _ (t : Summary) (s : List ℕ) (cs : List Capture) (rs : List Annotation) (c : isListed (t .datatype) ≡ true) (o : Option (Some Number)) (ns : List Note) where
+module _ (t : Summary) (s : List ℕ) (cs : List Capture) (rs : List Annotation) (o : Option (Some Number)) (ns : List Note) where
   abbrev pub planOf : Plan
   planOf = record {
     name = datatypeName (t .datatype);
-    plain = name-plain (t .datatype) c;
+    plain = name-plain (t .datatype);
     channels = t .channels;
     offset = t .offset;
     trailing = t .trailing;
@@ -163,7 +163,7 @@ module _ (t : Summary) (s : List ℕ) (cs : List Capture) (rs : List Annotation)
     global-text : globalValue planOf .0 ≡ globalText s t
     unfolding globalValue globalText all ordinary within
     global-text =
-        object-text 30 (plainField 29 (ascii "core:datatype") refl (datatypeName (t .datatype)) (name-plain (t .datatype) c))
+        object-text 30 (plainField 29 (ascii "core:datatype") refl (datatypeName (t .datatype)) (name-plain (t .datatype)))
         (plainField 29 (ascii "core:version") refl (ascii "1.0.0") refl
         ∷ decimalField 29 (ascii "core:num_channels") refl (t .channels)
         ∷ decimalField 29 (ascii "core:offset") refl (t .offset)

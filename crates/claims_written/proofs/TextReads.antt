@@ -109,7 +109,7 @@ module _ (t : Table) (s : List ℕ) (F : Formed (t .summary) (t .captures) (t .a
   S = t .summary
 
   abbrev plan : Plan
-  plan = planOf S s (capturesOf t) (annotationsOf t) (f .code) o ns
+  plan = planOf S s (capturesOf t) (annotationsOf t) o ns
 
   small : SmallPlan plan
   small = record {
@@ -144,7 +144,7 @@ module _ (t : Table) (s : List ℕ) (F : Formed (t .summary) (t .captures) (t .a
 
   plan-is : planText plan ≡ metadataOf t s
   unfolding metadataOf
-  plan-is = plan-text S s (capturesOf t) (annotationsOf t) (f .code) o ns q b
+  plan-is = plan-text S s (capturesOf t) (annotationsOf t) o ns q b
 
 -- ---- of a writable table
 module _ (t : Table) (s : List ℕ) (z : Writable t s) where
@@ -160,12 +160,12 @@ module _ (t : Table) (s : List ℕ) (z : Writable t s) where
   n : (ns : List Note) × Both (NoteOf s) (annotationsOf t) ns
   n = notes-plan s (annotationsOf t) (z .labels)
 
-  p : planText (planOf (t .summary) s (capturesOf t) (annotationsOf t) (f .code) (o .0) (n .0)) ≡ metadataOf t s
+  p : planText (planOf (t .summary) s (capturesOf t) (annotationsOf t) (o .0) (n .0)) ≡ metadataOf t s
   p = plan-is t s F f (o .0) (n .0) (o .1) (n .1)
 
   -- it is a text of the grammar
   pub text-derived : Text nesting (metadataOf t s)
-  text-derived = subst (Text nesting) p (planned (planOf (t .summary) s (capturesOf t) (annotationsOf t) (f .code) (o .0) (n .0)))
+  text-derived = subst (Text nesting) p (planned (planOf (t .summary) s (capturesOf t) (annotationsOf t) (o .0) (n .0)))
 
   -- and reads back
   pub text-reads : length (metadataOf t s) ≤ metadata → (caps notes : List ℕ) → RoomFor t caps notes → ReadsBack t s (metadataOf t s) caps notes

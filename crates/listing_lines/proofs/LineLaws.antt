@@ -4,15 +4,14 @@ use mathlib.Core.Path.{_≡_, refl, ap, _∙_}
 use mathlib.Core.Bool.{Bool, true, false, not, _&&_}
 use mathlib.Core.List.{List, [], _∷_, _++_, map, append-assoc}
 use native.Mathlib.Omega.{arith}
-use native.Mathlib.Decide.{decLe}
-use lib.ListN.{length, List·getD-eq-default}
 use lib.Dec.{ltb, eqb}
 use borrow.Author.Tests.{ne-eqb, eqb-false, not-true}
 use Rattle.json_blocks.specs.TextBytes.{ascii, within}
+use Rattle.json_blocks.specs.Lists.{all}
 use Rattle.json_blocks.proofs.ByteLaws.{cond-elim, within-is}
 use Rattle.json_strings.specs.Decode.{decodedFrom}
-use Rattle.sigmf_datatypes.specs.Datatypes.{Datatype, twelve, datatypes, datatypeOf, datatypeName}
-use Rattle.sigmf_datatypes.proofs.Laws.{all, all-at}
+use Rattle.sigmf_datatypes.specs.Datatypes.{Datatype, twelve, datatypes, datatypeName}
+use Rattle.sigmf_datatypes.proofs.Laws.{at-every}
 use Rattle.table.specs.declared.Place.{Place}
 use Rattle.table.specs.declared.Annotation.{Annotation}
 use Rattle.table.specs.declared.Capture.{Capture}
@@ -72,14 +71,8 @@ abbrev numbered : (w : List ℕ) → Free 0x0A w → ℕ → Part
 numbered w h n = join (record { text = w; free = h }) (record { text = digitsOf n; free = digits-free 0x0A (omega arith) n })
 
 name-free : (c : ℕ) → Free 0x0A (datatypeName c)
-unfolding datatypeOf datatypes twelve all
-name-free c = elim (decLe (length datatypes) c) [ yes h ↦ out h | no h ↦ inside (omega arith) ]
-  where
-    out : length datatypes ≤ c → Free 0x0A (datatypeName c)
-    out h = rw (List·getD-eq-default datatypes _ h)
-
-    inside : c < length datatypes → Free 0x0A (datatypeName c)
-    inside h = all-at (λ (d : Datatype). all (λ (b : ℕ). not (eqb b 0x0A)) (d .name)) datatypes c _ refl h
+unfolding datatypes twelve all
+name-free c = at-every (λ (d : Datatype). all (λ (b : ℕ). not (eqb b 0x0A)) (d .name)) refl refl c
 
 hex-free : (d : ℕ) → eqb (hexDigitOf d) 0x0A ≡ false
 unfolding hexDigitOf

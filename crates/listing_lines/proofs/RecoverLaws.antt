@@ -18,7 +18,7 @@ use Rattle.json_strings.specs.declared.Unit.{Unit}
 use Rattle.json_strings.specs.declared.Unit.the-variants.{Byte, Escape}
 use Rattle.json_strings.specs.Decode.{unitAt, unitBytes, unitEnd, endsString, decodedUnits, decodedFrom}
 use Rattle.json_strings.specs.Utf8.{utf8}
-use Rattle.sigmf_datatypes.proofs.Laws.{all}
+use Rattle.json_blocks.specs.Lists.{all}
 use Rattle.table.specs.declared.Place.{Place}
 use Rattle.table.specs.declared.Annotation.{Annotation}
 use Rattle.table.specs.Rows.{flat}

@@ -1,55 +1,56 @@
 -- Laws of the table of datatypes, each a test computed over its rows.
-use Prim.Native.Nat.{ℕ, zero, suc, _*_, _≤_, _<_, _^_, _+_, _-_}
+use Prim.Native.Nat.{ℕ, zero, suc, _*_, _≤_, _<_}
 use mathlib.Core.Path.{_≡_, refl, sym, ap, _∙_}
-use mathlib.Core.Bool.{Bool, true, false, _&&_, cond, false≢true}
-use mathlib.Core.List.{List, [], _∷_, _++_, map}
+use mathlib.Core.Bool.{Bool, true, false, cond}
+use mathlib.Core.List.{List, [], _∷_}
 use native.Mathlib.Omega.{arith}
 use native.Mathlib.Nat.{mul-le-mul, mul-pos}
 use native.Mathlib.Decide.{decLe}
 use mir.Syntax.{w64}
 use mir.Val.{Fits}
-use lib.ListN.{length, getD, set, List·getD-eq-default, List·getD-append}
-use lib.Seq.{getD-append-add}
+use lib.ListN.{length, getD, List·getD-eq-default, List·getD-append}
 use lib.Dec.{leb, ltb}
-use borrow.Author.Tests.{eq-eqb, ne-eqb, le-ltb, lt-ltb, le-leb, lt-leb, leb-true, ltb-true}
+use borrow.Author.Tests.{le-ltb, lt-ltb, le-leb, lt-leb, leb-true, ltb-true}
 use Rattle.limits.specs.Limits.{channels}
+use Rattle.json_blocks.specs.Lists.{all}
+use Rattle.json_blocks.proofs.BlockLaws.{and-left, and-right}
 use Rattle.sigmf_datatypes.specs.declared.Entry.{Entry}
 use Rattle.sigmf_datatypes.specs.Datatypes.{Datatype, datatypes, twelve, isListed, datatypeOf, datatypeName, noDatatype, zeroFilled, channelBytes, widthOf, sampleBytes}
-use Rattle.sigmf_datatypes.specs.Entry.{entryOf, entryIn, complexEntry}
+use Rattle.sigmf_datatypes.specs.Entry.{entryOf}
 
--- the test f passes at every row
-unfoldable pub all : {A : Type 0} → (A → Bool) → List A → Bool
-all f [] = true
-all f (x ∷ t) = f x && all f t
-
+-- a test that passes at every item passes at item k
 pub all-at : {A : Type 0} (f : A → Bool) (xs : List A) (k : ℕ) (z : A) → all f xs ≡ true → k < length xs → f (getD xs k z) ≡ true
 unfolding all
 all-at f [] k z e h = absurd (omega arith)
-all-at f (x ∷ t) zero z e h = left (f x) (all f t) e
-  where
-    left : (a b : Bool) → a && b ≡ true → a ≡ true
-    left true b q = refl
-    left false b q = q
-all-at f (x ∷ t) (suc k) z e h = all-at f t k z (right (f x) (all f t) e) (omega arith)
-  where
-    right : (a b : Bool) → a && b ≡ true → b ≡ true
-    right true b q = q
-    right false b q = absurd (false≢true q)
+all-at f (x ∷ t) zero z e h = and-left (f x) (all f t) e
+all-at f (x ∷ t) (suc k) z e h = all-at f t k z (and-right (f x) (all f t) e) (omega arith)
 
--- a sample of one channel has at least one byte, and few
+-- a test that every row passes, and the row of an unlisted code too, is passed at every code
+pub at-every : (f : Datatype → Bool) → all f datatypes ≡ true → f noDatatype ≡ true → (c : ℕ) → f (datatypeOf c) ≡ true
+unfolding datatypeOf
+at-every f e z c = elim (decLe (length datatypes) c) [ yes h ↦ rw (List·getD-eq-default datatypes noDatatype h) z | no h ↦ all-at f datatypes c noDatatype e (omega arith) ]
+
+-- the code's count is the list's length
+abbrev pub count : ℕ
+count = 28
+
+pub counted : count ≡ length datatypes
+unfolding datatypes twelve
+counted = refl
+
+-- a sample of one channel has at least one byte, and at most two components of eight
 pub unit-least : (c : ℕ) → isListed c ≡ true → 1 ≤ channelBytes (datatypeOf c)
 unfolding isListed datatypeOf datatypes twelve all
 unit-least c e = leb-true 1 (channelBytes (datatypeOf c)) (all-at (λ (d : Datatype). leb 1 (channelBytes d)) datatypes c _ refl (ltb-true c (length datatypes) e))
 
-pub unit-most : (c : ℕ) → channelBytes (datatypeOf c) < 2 ^ 32
-unfolding datatypeOf datatypes twelve all
-unit-most c = elim (decLe (length datatypes) c) [ yes h ↦ out h | no h ↦ within (omega arith) ]
-  where
-    out : length datatypes ≤ c → channelBytes (datatypeOf c) < 2 ^ 32
-    out h = rw (List·getD-eq-default datatypes _ h) (omega arith)
+pub unit-most : (c : ℕ) → channelBytes (datatypeOf c) ≤ 16
+unfolding datatypes twelve all
+unit-most c = leb-true (channelBytes (datatypeOf c)) 16 (at-every (λ (d : Datatype). leb (channelBytes d) 16) refl refl c)
 
-    within : c < length datatypes → channelBytes (datatypeOf c) < 2 ^ 32
-    within h = ltb-true (channelBytes (datatypeOf c)) (2 ^ 32) (all-at (λ (d : Datatype). ltb (channelBytes d) (2 ^ 32)) datatypes c _ refl h)
+-- request P4: "W may now reach 16,384"
+pub width-most : (c n : ℕ) → n ≤ channels → widthOf c n ≤ 16384
+unfolding widthOf
+width-most c n h = mul-le-mul (unit-most c) h
 
 -- W of a listed code and an allowed number of channels is at least 1
 pub width-least : (c n : ℕ) → isListed c ≡ true → 1 ≤ n → 1 ≤ widthOf c n
@@ -58,13 +59,13 @@ width-least c n e h = mul-pos (unit-least c e) h
 
 -- ---- the answers
 module _ (c : ℕ) where
-  pub unlisted : (k : ℕ) → k ≡ length datatypes → k ≤ c → isListed c ≡ false
+  pub unlisted : count ≤ c → isListed c ≡ false
   unfolding isListed
-  unlisted k e h = rw (← e) (le-ltb _ _ h)
+  unlisted h = rw (← counted) (le-ltb _ _ h)
 
-  pub is-listed : (k : ℕ) → k ≡ length datatypes → c < k → isListed c ≡ true
+  pub is-listed : c < count → isListed c ≡ true
   unfolding isListed
-  is-listed k e h = rw (← e) (lt-ltb _ _ h)
+  is-listed h = rw (← counted) (lt-ltb _ _ h)
 
   pub width-none : (n : ℕ) → isListed c ≡ false → 0 ≡ sampleBytes c n
   unfolding sampleBytes
@@ -83,10 +84,10 @@ module _ (c : ℕ) where
     unfolding sampleBytes widthOf
     width-is n u q h k = rw (q, e, le-leb _ _ h, le-leb _ _ k)
 
-pub width-fits : (u n : ℕ) → u < 2 ^ 32 → n ≤ channels → Fits w64 (u * n)
-width-fits u n h k =
-    let b : u ≤ 2 ^ 32 = omega arith in
-    omega (arith, mul-le-mul b k)
+-- W is a number of 64 bits
+pub width-fits : (c n u : ℕ) → u ≡ channelBytes (datatypeOf c) → n ≤ channels → Fits w64 (u * n)
+unfolding widthOf
+width-fits c n u e h = rw e (omega (arith, width-most c n h))
 
 -- ---- the code's table
 
@@ -103,51 +104,15 @@ apart-over k (suc n) h =
     let f = h .1 in
     omega arith
 
--- past a list's end
-pub entry-over : (ds : List Datatype) (k : ℕ) → length ds ≤ k → entryOf noDatatype ≡ entryIn ds k
-entry-over ds k h = ap entryOf (sym (List·getD-eq-default ds noDatatype h))
-
-pub complex-stays : (d : Entry) → d .chars ≡ 0 → d ≡ complexEntry d
-complex-stays d h = rw (eq-eqb _ _ h)
-
-pub complex-beside : (d : Entry) → (d .chars ≡ 0 → ⊥)
-    → record { name = set (d .name) 0 0x63; chars = d .chars; bytes = d .bytes; complex = true } ≡ complexEntry d
-complex-beside d f = rw (ne-eqb _ _ f)
-
-map-at : {A B : Type 0} (f : A → B) (xs : List A) (k : ℕ) (z : A) → getD (map f xs) k (f z) ≡ f (getD xs k z)
-map-at f [] k z = refl
-map-at f (x ∷ xs) zero z = refl
-map-at f (x ∷ xs) (suc k) z = map-at f xs k z
-
-complex-map : map complexEntry (map entryOf (twelve false)) ≡ map entryOf (twelve true)
-unfolding twelve
-complex-map = refl
-
-complex-at : (k : ℕ) → complexEntry (entryIn (twelve false) k) ≡ entryIn (twelve true) k
-complex-at k =
-    sym (ap complexEntry (map-at entryOf (twelve false) k noDatatype)) ∙ sym (map-at complexEntry (map entryOf (twelve false)) k (entryOf noDatatype))
-    ∙ ap (λ (es : List Entry). getD es k (entryOf noDatatype)) complex-map ∙ map-at entryOf (twelve true) k noDatatype
-
-pub real-is : (c : ℕ) → c < 12 → entryIn (twelve false) c ≡ entryOf (datatypeOf c)
-unfolding datatypeOf datatypes twelve
-real-is c h = ap entryOf (sym (List·getD-append (twelve false) (twelve true) noDatatype c h))
-
-pub complex-is : (c : ℕ) → 12 ≤ c → complexEntry (entryIn (twelve false) (c - 12)) ≡ entryOf (datatypeOf c)
-unfolding datatypeOf datatypes twelve
-complex-is c h =
-    let e : 12 + (c - 12) ≡ c = omega arith in
-    complex-at (c - 12) ∙ ap entryOf (sym (getD-append-add (twelve false) (twelve true) (c - 12) noDatatype) ∙ ap (λ (k : ℕ). getD (twelve false ++ twelve true) k noDatatype) e)
+-- a code past the list's end has the empty row
+pub entry-none : (c : ℕ) → count ≤ c → entryOf noDatatype ≡ entryOf (datatypeOf c)
+unfolding datatypeOf
+entry-none c h = ap entryOf (sym (List·getD-eq-default datatypes noDatatype (rw (← counted) h)))
 
 -- names fit the entries
 pub name-most : (c : ℕ) → length (datatypeName c) ≤ 8
-unfolding datatypeOf datatypes twelve all
-name-most c = elim (decLe (length datatypes) c) [ yes h ↦ out h | no h ↦ within (omega arith) ]
-  where
-    out : length datatypes ≤ c → length (datatypeName c) ≤ 8
-    out h = rw (List·getD-eq-default datatypes _ h) (omega arith)
-
-    within : c < length datatypes → length (datatypeName c) ≤ 8
-    within h = leb-true (length (datatypeName c)) 8 (all-at (λ (d : Datatype). leb (length (d .name)) 8) datatypes c _ refl h)
+unfolding datatypes twelve all
+name-most c = leb-true (length (datatypeName c)) 8 (at-every (λ (d : Datatype). leb (length (d .name)) 8) refl refl c)
 
 module _ (d : Entry) (c : ℕ) (e : d ≡ entryOf (datatypeOf c)) where
   pub entry-name : d .name ≡ zeroFilled (datatypeName c)

@@ -1,4 +1,4 @@
--- Document 01, "Fields", the line on datatypes, and the first sentence of "Where samples lie".
+-- Document 01, "Fields", the line on datatypes, with request P4's; and the first sentence of "Where samples lie".
 use Prim.Native.Nat.{ℕ, zero, suc, _*_, _-_}
 use Prim.Native.String.{String}
 use mathlib.Core.Bool.{Bool, true, false, _&&_, cond}
@@ -34,9 +34,12 @@ twelve c =
     ∷ datatype c "u8" 1
     ∷ []
 
--- "codes 0 to 11 with `r` before"; "Codes 12 to 23 the same with `c`": a code is a place in this list
+-- "codes 0 to 11 with `r` before"; "Codes 12 to 23 the same with `c`"; request P4: "Add `rf64_le`, `rf64_be`, `cf64_le`, `cf64_be` as codes 24 to 27,
+-- eight bytes a component". A code is a place in this list
 unfoldable pub datatypes : List Datatype
-datatypes = twelve false ++ twelve true
+datatypes =
+    twelve false ++ twelve true
+    ++ (datatype false "f64_le" 8 ∷ datatype false "f64_be" 8 ∷ datatype true "f64_le" 8 ∷ datatype true "f64_be" 8 ∷ [])
 
 unfoldable pub isListed : ℕ → Bool
 isListed c = ltb c (length datatypes)

@@ -1,10 +1,8 @@
 // The datatypes of a recording: their names, the bytes of a component and of a sample.
 ghost use mathlib.Core.Path.{_≡_};
-ghost use mathlib.Core.Bool.{true, false};
-ghost use Prim.Native.Nat.{_≤_, _<_, _^_};
 ghost use lib.ListN.{length, getD};
-ghost use Rattle.sigmf_datatypes.specs.Datatypes.{isListed, datatypeOf, datatypeName, zeroFilled, twelve, channelBytes, sampleBytes};
-ghost use Rattle.sigmf_datatypes.specs.Entry.{entryOf, entryIn, complexEntry};
+ghost use Rattle.sigmf_datatypes.specs.Datatypes.{isListed, datatypeOf, datatypeName, zeroFilled, channelBytes, sampleBytes};
+ghost use Rattle.sigmf_datatypes.specs.Entry.{entryOf};
 use limits::Limits;
 
 // A row of the table: the name's bytes from the front, how many they are, the bytes of a component, complex or not.
@@ -19,71 +17,57 @@ struct Entry {
 pub struct Datatypes {}
 
 impl Datatypes {
-    // How many there are: the real ones, then as many complex ones.
-    pub const COUNT: u64 = 24;
-
-    const REAL: u64 = 12;
+    // How many there are.
+    pub const COUNT: u64 = 28;
 }
 
-// The row of a real datatype.
-fn real(name: [u8; 8], chars: usize, bytes: u64) -> Entry
-    ensures { λ r. ⌜ r ≡ record { name = name; chars = chars; bytes = bytes; complex = false } ⌝ }
+// A row of the table.
+fn row(name: &[u8; 8], chars: usize, bytes: u64, complex: bool) -> Entry
+    ensures { λ r. ⌜ r ≡ record { name = now (name .entry); chars = chars; bytes = bytes; complex = complex } ⌝ }
 {
     Entry {
-        name: name,
+        name: *name,
         chars: chars,
         bytes: bytes,
-        complex: false,
+        complex: complex,
     }
 }
 
-// The row of a real datatype's code; an empty one past the last. A constant that is an array is built anew wherever it is used, a match is not.
-fn real_of(code: u64) -> Entry
-    ensures { λ r. ⌜ r ≡ entryIn (twelve false) code ⌝ }
-{
-    match code {
-        0 => real(*b"rf32_le\0", 7, 4),
-        1 => real(*b"rf32_be\0", 7, 4),
-        2 => real(*b"ri32_le\0", 7, 4),
-        3 => real(*b"ri32_be\0", 7, 4),
-        4 => real(*b"ri16_le\0", 7, 2),
-        5 => real(*b"ri16_be\0", 7, 2),
-        6 => real(*b"ru32_le\0", 7, 4),
-        7 => real(*b"ru32_be\0", 7, 4),
-        8 => real(*b"ru16_le\0", 7, 2),
-        9 => real(*b"ru16_be\0", 7, 2),
-        10 => real(*b"ri8\0\0\0\0\0", 3, 1),
-        11 => real(*b"ru8\0\0\0\0\0", 3, 1),
-        _ => real([0u8; 8], 0, 0),
-    }
-}
-
-// The complex datatype beside a real one; the empty row stays.
-fn complex_of(d: Entry) -> Entry
-    ensures { λ r. ⌜ r ≡ complexEntry d ⌝ }
-{
-    let mut name = d.name;
-    if d.chars == 0 {
-        return d;
-    }
-    name[0] = b'c';
-    Entry {
-        name: name,
-        chars: d.chars,
-        bytes: d.bytes,
-        complex: true,
-    }
-}
-
-// The row of a code; an empty one for an unlisted code.
+// The row of a code; an empty one for an unlisted code. A constant that is an array is built anew wherever it is used, a match is not.
 fn entry_of(code: u64) -> Entry
     ensures { λ r. ⌜ r ≡ entryOf (datatypeOf code) ⌝ }
 {
-    if code < Datatypes::REAL {
-        return real_of(code);
+    match code {
+        0 => row(b"rf32_le\0", 7, 4, false),
+        1 => row(b"rf32_be\0", 7, 4, false),
+        2 => row(b"ri32_le\0", 7, 4, false),
+        3 => row(b"ri32_be\0", 7, 4, false),
+        4 => row(b"ri16_le\0", 7, 2, false),
+        5 => row(b"ri16_be\0", 7, 2, false),
+        6 => row(b"ru32_le\0", 7, 4, false),
+        7 => row(b"ru32_be\0", 7, 4, false),
+        8 => row(b"ru16_le\0", 7, 2, false),
+        9 => row(b"ru16_be\0", 7, 2, false),
+        10 => row(b"ri8\0\0\0\0\0", 3, 1, false),
+        11 => row(b"ru8\0\0\0\0\0", 3, 1, false),
+        12 => row(b"cf32_le\0", 7, 4, true),
+        13 => row(b"cf32_be\0", 7, 4, true),
+        14 => row(b"ci32_le\0", 7, 4, true),
+        15 => row(b"ci32_be\0", 7, 4, true),
+        16 => row(b"ci16_le\0", 7, 2, true),
+        17 => row(b"ci16_be\0", 7, 2, true),
+        18 => row(b"cu32_le\0", 7, 4, true),
+        19 => row(b"cu32_be\0", 7, 4, true),
+        20 => row(b"cu16_le\0", 7, 2, true),
+        21 => row(b"cu16_be\0", 7, 2, true),
+        22 => row(b"ci8\0\0\0\0\0", 3, 1, true),
+        23 => row(b"cu8\0\0\0\0\0", 3, 1, true),
+        24 => row(b"rf64_le\0", 7, 8, false),
+        25 => row(b"rf64_be\0", 7, 8, false),
+        26 => row(b"cf64_le\0", 7, 8, true),
+        27 => row(b"cf64_be\0", 7, 8, true),
+        _ => row(&[0u8; 8], 0, 0, false),
     }
-    let d = real_of(code - Datatypes::REAL);
-    complex_of(d)
 }
 
 // The code is one of the list.
@@ -95,7 +79,7 @@ pub fn is_listed(code: u64) -> bool
 
 // The bytes of a sample of one channel.
 fn channel_bytes(code: u64) -> u64
-    ensures { λ r. ⌜ (r ≡ channelBytes (datatypeOf code)) × (r < 2 ^ 32) ⌝ }
+    ensures { λ r. ⌜ r ≡ channelBytes (datatypeOf code) ⌝ }
 {
     let d = entry_of(code);
     if d.complex {

@@ -19,22 +19,16 @@ use Rattle.json_strings.specs.declared.Stream.the-variants.{Next, End}
 use Rattle.json_strings.specs.Stream.{startAt, nextByte, stream}
 use Rattle.json_strings.proofs.DecodeLaws.{plain-whole, next-plain, stream-start, streamed-next, streamed-end}
 use Rattle.sigmf_datatypes.proofs.Laws.{all-at}
-use Rattle.sigmf_datatypes.proofs.Laws.{all as every}
 use Rattle.sigmf_texts.specs.Texts.{nameText}
 use Rattle.sigmf_texts.proofs.FormLaws.{all-end, all-on, all-not}
 use Rattle.sigmf_names.specs.DecodedCode.{directAt}
 
 -- ---- a name of bytes that stand for themselves is its own decoded text
-all-every : (f : ℕ → Bool) (s : List ℕ) → all f s ≡ every f s
-unfolding all every
-all-every f [] = refl
-all-every f (b ∷ s) = rw (all-every f s)
-
 abbrev pub OrdinaryTo : List ℕ → ℕ → Type 0
 OrdinaryTo s i = (j : ℕ) → j < i → ordinaryByte (byte s j) ≡ true
 
 each : (s : List ℕ) → all ordinaryByte s ≡ true → OrdinaryTo s (length s)
-each s e j l = all-at ordinaryByte s j 0 (sym (all-every ordinaryByte s) ∙ e) l
+each s e j l = all-at ordinaryByte s j 0 e l
 
 itself : (s : List ℕ) → all ordinaryByte s ≡ true → nameText s ≡ s
 itself s e = plain-whole s (λ i h. let o = ordinary-is (byte s i) (each s e i h) in (o .slash, o .quote))

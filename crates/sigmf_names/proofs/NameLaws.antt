@@ -15,7 +15,6 @@ use Rattle.json_blocks.proofs.BlockLaws.{and-left, and-right}
 use Rattle.json_names.specs.Same.{same}
 use Rattle.json_names.proofs.SameLaws.{same-is, same-ne}
 use Rattle.sigmf_datatypes.proofs.Laws.{all-at}
-use Rattle.sigmf_datatypes.proofs.Laws.{all as every}
 use Rattle.sigmf_texts.specs.Lookup.{indexIn}
 use Rattle.sigmf_texts.specs.Form.{nameByte, namespaceByte, namespaceOf, afterColon, formOk}
 use Rattle.sigmf_texts.proofs.LookupLaws.{index-same}
@@ -33,13 +32,13 @@ unfolding typeAt coreAt
 type-over cs i h = ap (λ (c : Core). c .type) (sym (List·getD-eq-default cs otherField h))
 
 -- ---- a test that every name of a list passes is passed by every known name
-known : (f : List ℕ → Bool) (cs : List Core) (d : List ℕ) → every (λ (c : Core). f (coreName c)) cs ≡ true → indexIn coreName cs d < length cs → f d ≡ true
+known : (f : List ℕ → Bool) (cs : List Core) (d : List ℕ) → all (λ (c : Core). f (coreName c)) cs ≡ true → indexIn coreName cs d < length cs → f d ≡ true
 known f cs d e h =
     ap f (same-is d _ (index-same coreName otherField cs d h)) ∙ all-at (λ (c : Core). f (coreName c)) cs (indexIn coreName cs d) otherField e h
 
 -- every known name has the form of a field name
 pub known-formed : (kind : Object) (d : List ℕ) → indexIn coreName (coreOf kind) d < length (coreOf kind) → formOk d ≡ true
-unfolding globalFields captureFields annotationFields every all formOk nameByte namespaceByte namespaceOf afterColon within
+unfolding globalFields captureFields annotationFields all formOk nameByte namespaceByte namespaceOf afterColon within
 known-formed O.Global d h = known formOk globalFields d refl h
 known-formed O.Capture d h = known formOk captureFields d refl h
 known-formed O.Annotation d h = known formOk annotationFields d refl h
@@ -88,16 +87,16 @@ module _ (f : ℕ → Bool) (d : List ℕ) (h : f (length d) ≡ false) where
   other-length : (c : Core) → f (length (coreName c)) ≡ true → length (coreName c) ≡ length d → ⊥
   other-length c e q = false≢true (sym h ∙ ap f (sym q) ∙ e)
 
-  apart-from : (cs : List Core) → every (λ (c : Core). f (length (coreName c))) cs ≡ true
+  apart-from : (cs : List Core) → all (λ (c : Core). f (length (coreName c))) cs ≡ true
       → (indexIn coreName cs d ≡ length cs) × (namesOfLength cs (length d) ≡ 0)
-  unfolding every indexIn namesOfLength
+  unfolding all indexIn namesOfLength
   apart-from [] e = (refl, refl)
   apart-from (c ∷ cs) e =
       let a = other-length c (and-left _ _ e) in
       let r = apart-from cs (and-right (f (length (coreName c))) _ e) in
       (rw (sym (length-apart d (coreName c) (λ q. a (sym q)))) (ap suc (r .0)), rw (ne-eqb _ _ a) (r .1))
 
-  none-of-length : (cs : List Core) → every (λ (c : Core). f (length (coreName c))) cs ≡ true
+  none-of-length : (cs : List Core) → all (λ (c : Core). f (length (coreName c))) cs ≡ true
       → _≡_ {A = NameLookup} (record { number = length cs; compared = 0 }) (lookupIn cs d)
   none-of-length cs e = let r = apart-from cs e in rw (r .0, r .1)
 
@@ -115,14 +114,14 @@ unfolding oneOf NoneOf
 none-of [] n h = refl
 none-of (l ∷ ls) n h = rw (ne-eqb n l (h .1)) (none-of ls n (h .0))
 
-pub none-compared : (cs : List Core) (ls : List ℕ) (d : List ℕ) → every (λ (c : Core). oneOf ls (length (coreName c))) cs ≡ true → NoneOf ls (length d)
+pub none-compared : (cs : List Core) (ls : List ℕ) (d : List ℕ) → all (λ (c : Core). oneOf ls (length (coreName c))) cs ≡ true → NoneOf ls (length d)
     → _≡_ {A = NameLookup} (record { number = length cs; compared = 0 }) (lookupIn cs d)
 none-compared cs ls d e h = none-of-length (oneOf ls) d (none-of ls (length d) h) cs e
 
 -- no core name has more than 20 bytes
 pub none-longer : (kind : Object) (d : List ℕ) → 20 < length d
     → _≡_ {A = NameLookup} (record { number = length (coreOf kind); compared = 0 }) (lookupIn (coreOf kind) d)
-unfolding globalFields captureFields annotationFields every
+unfolding globalFields captureFields annotationFields all
 none-longer O.Global d h = none-of-length (λ n. leb n 20) d (lt-leb _ _ h) globalFields refl
 none-longer O.Capture d h = none-of-length (λ n. leb n 20) d (lt-leb _ _ h) captureFields refl
 none-longer O.Annotation d h = none-of-length (λ n. leb n 20) d (lt-leb _ _ h) annotationFields refl

@@ -8,7 +8,7 @@ use lib.ListN.{length, take, drop, replicate, length-append}
 use lib.Seq.{take-append-seam}
 use borrow.Author.Tests.{ltb-true, ltb-false}
 use Rattle.json_names.specs.Same.{same}
-use Rattle.sigmf_datatypes.specs.Datatypes.{Datatype, datatypes, twelve, isListed, datatypeOf, datatypeName, zeroFilled}
+use Rattle.sigmf_datatypes.specs.Datatypes.{Datatype, datatypes, isListed, datatypeOf, datatypeName, zeroFilled}
 use Rattle.sigmf_texts.specs.Lookup.{indexIn}
 use Rattle.sigmf_texts.proofs.LookupLaws.{index-here, index-later, index-over}
 
@@ -27,17 +27,13 @@ module _ (i k : ℕ) (w : List ℕ) (ew : w ≡ zeroFilled (datatypeName i)) (ek
   same-name d = rw (ew, ek, take-append-seam (datatypeName i) _)
 
   module _ (d : List ℕ) (t : Bool) (e : t ≡ same d (take k w)) (l : isListed i ≡ true) where
-    inside : i < length datatypes
-    unfolding isListed
-    inside = ltb-true i (length datatypes) l
-
     pub datatype-here : t ≡ true → i ≡ i + indexIn named (drop i datatypes) d
     unfolding datatypeOf
-    datatype-here h = index-here named _ datatypes i d inside (sym (same-name d) ∙ sym e ∙ h)
+    datatype-here h = index-here named _ datatypes i d (listed-below i l) (sym (same-name d) ∙ sym e ∙ h)
 
     pub datatype-later : t ≡ false → i + 1 + indexIn named (drop (i + 1) datatypes) d ≡ i + indexIn named (drop i datatypes) d
     unfolding datatypeOf
-    datatype-later h = index-later named _ datatypes i d inside (sym (same-name d) ∙ sym e ∙ h)
+    datatype-later h = index-later named _ datatypes i d (listed-below i l) (sym (same-name d) ∙ sym e ∙ h)
 
 pub datatype-over : (i : ℕ) (d : List ℕ) → isListed i ≡ false → i ≡ i + indexIn named (drop i datatypes) d
 unfolding isListed

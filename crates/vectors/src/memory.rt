@@ -24,13 +24,13 @@ pub(crate) fn fill_bytes(v: &mut [u8]) {
     }
 }
 
-// A dataset: 3 and up by 7, modulo 256.
+// A dataset: 3 and up by 7, modulo 251.
 pub(crate) fn fill_dataset(v: &mut [u8]) {
     let mut x = 3u8;
     let mut i = 0usize;
     while i < v.len() {
         v[i] = x;
-        x = std::num::wrapping_add_u8(x, 7);
+        x = if x < 244 { x + 7 } else { x - 244 };
         i += 1;
     }
 }

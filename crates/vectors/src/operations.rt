@@ -34,7 +34,7 @@ pub struct Case {
 // The most numbers of lent output.
 const NUMBERS: usize = 512;
 // The most bytes of a dataset and of lent output.
-const BYTES: usize = 4096;
+const BYTES: usize = 65536;
 
 // The head is the operation, the summary's twelve numbers, a and b.
 pub(crate) fn run_operation(head: &[u64], caps: &[u64], notes: &[u64], sizes: &[u64]) -> bool {

@@ -1,7 +1,7 @@
 use crate::field_answers::{answer, KINDS};
 use crate::field_cases::{field_cases, fixed_cases};
 use crate::field_random::random_name;
-use crate::fields::{core_fields, core_names, look_up, Place};
+use crate::fields::{core_fields, core_names, datatype_count, look_up, Place};
 use crate::frames::{read_frames, write_frames, Case};
 use crate::json::{decode_any, decode_body, judge};
 use crate::rng::Rng;
@@ -27,7 +27,7 @@ fn answer_lines() {
     assert_eq!(line('u', "18446744073709551616"), "u 0");
     assert_eq!(line('u', "\"1\""), "u 0");
     assert_eq!(line('d', "\"\\u0072u8\""), "d 11");
-    assert_eq!(line('d', "\"\""), "d 24");
+    assert_eq!(line('d', "\"\""), format!("d {}", datatype_count()));
     assert_eq!(line('v', "\"1.0\\u002e0\""), "v 1");
     assert_eq!(line('v', "\"v1.0.0\""), "v 0");
     assert_eq!(line('m', "\"2016-12-31T23:59:60Z\""), "m 1 2016 12 31 23 59 60 0 7");
@@ -174,7 +174,7 @@ fn every_answer_occurs() {
         for start in ["u 0", "v 0", "v 1", "m 0", "m 1", "n 0", "n 1", "x 0", "x 12", "x 13"] {
             assert!(seen.get(start).copied().unwrap_or(0) >= 7, "{start}");
         }
-        for (letter, last) in [('d', 24), ('g', 20), ('c', 6), ('a', 10)] {
+        for (letter, last) in [('d', datatype_count()), ('g', 20), ('c', 6), ('a', 10)] {
             for number in 0..=last {
                 let start = format!("{letter} {number}");
                 assert!(seen.contains_key(&start), "{start}");

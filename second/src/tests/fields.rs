@@ -1,4 +1,4 @@
-use crate::fields::{datatype_code, datatypes, has_form, is_datetime, known_type, sample_width, uint, Place, Type};
+use crate::fields::{datatype_code, datatype_count, datatypes, has_form, is_datetime, known_type, sample_width, uint, Place, Type};
 
 #[test]
 fn name_forms() {
@@ -35,7 +35,7 @@ fn uints() {
 #[test]
 fn datatype_list() {
     let names = datatypes();
-    assert_eq!(names.len(), 24);
+    assert_eq!((names.len(), datatype_count()), (28, 28));
     let known = [("rf32_le", 0), ("rf32_be", 1), ("ri32_le", 2), ("ri16_le", 4), ("ri16_be", 5), ("ru32_le", 6), ("ru16_be", 9)];
     for (name, code) in known {
         assert_eq!(datatype_code(name.as_bytes()), Some(code));
@@ -44,7 +44,11 @@ fn datatype_list() {
     for (name, code) in known {
         assert_eq!(datatype_code(name.as_bytes()), Some(code));
     }
-    for bad in ["i16_le", "ri8_le", "RU8", "rf64_le", "", "ru8 ", "cf32"] {
+    let known = [("rf64_le", 24), ("rf64_be", 25), ("cf64_le", 26), ("cf64_be", 27)];
+    for (name, code) in known {
+        assert_eq!(datatype_code(name.as_bytes()), Some(code));
+    }
+    for bad in ["i16_le", "ri8_le", "RU8", "rf64", "cf64", "rf64_LE", "", "ru8 ", "cf32"] {
         assert_eq!(datatype_code(bad.as_bytes()), None);
     }
     let bytes = [4, 4, 4, 4, 2, 2, 4, 4, 2, 2, 1, 1];
@@ -52,7 +56,10 @@ fn datatype_list() {
         let times = if code < 12 { 1 } else { 2 };
         assert_eq!(sample_width(code, 3), Some(bytes[code as usize % 12] * times * 3));
     }
-    assert_eq!(sample_width(24, 1), None);
+    for (code, width) in [(24, 8), (25, 8), (26, 16), (27, 16)] {
+        assert_eq!(sample_width(code, 1_024), Some(width * 1_024));
+    }
+    assert_eq!(sample_width(datatype_count(), 1), None);
 }
 
 #[test]

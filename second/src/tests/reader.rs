@@ -134,7 +134,7 @@ fn version_datatype_channels() {
     assert_eq!(refusal(&global("ru8", "v1.0.0"), 0), 8);
     assert_eq!(refusal(&global("ru8", r"\u0031.0.0"), 0), 0);
     assert_eq!(refusal(&global(r"\u0072u8", "1.0.0"), 0), 0);
-    for bad in ["i16_le", "ri8_le", "RU8", "rf64_le", ""] {
+    for bad in ["i16_le", "ri8_le", "RU8", "rf64", "cf64", "rf64_LE", ""] {
         assert_eq!(refusal(&global(bad, "1.0.0"), 0), 9);
     }
     for (channels, expected) in [("0", 10), ("1", 0), ("1024", 0), ("1025", 10), ("9223372036854775808", 10)] {

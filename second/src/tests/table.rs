@@ -1,4 +1,5 @@
 use super::{meta, open, EXAMPLE, G};
+use crate::fields::datatype_count;
 use crate::rng::Rng;
 use crate::steps::State;
 use crate::table::*;
@@ -76,7 +77,7 @@ fn forged_tables() {
     let state = open(EXAMPLE, 108);
     let changes: [fn(&mut State); 22] = [
         |t| t.summary.refusal = 1,
-        |t| t.summary.code = 24,
+        |t| t.summary.code = datatype_count(),
         |t| t.summary.code = 4,
         |t| t.summary.channels = 0,
         |t| t.summary.channels = 1025,
@@ -203,4 +204,14 @@ fn large_recordings() {
     assert_eq!(pieces_of(&state, 0, billion + 1), Ok(expected));
     let part = cut_of(&state, 5, billion + 5);
     assert_eq!(part.captures, [5, billion, 0, 0, billion, billion + 5, (billion - 5) * 1024, 0]);
+}
+
+#[test]
+fn double_precision() {
+    let global = r#""core:datatype":"cf64_le","core:version":"1.0.0","core:num_channels":1024"#;
+    let state = open(&meta(global, "{$s:17179869184}", ""), 1 << 48);
+    assert_eq!((state.summary.code, state.summary.width, state.summary.samples), (26, 16_384, 1 << 34));
+    assert_eq!(locate(&state.table(), (1 << 34) - 1).byte, (1 << 48) - 16_384);
+    assert_eq!(locate(&state.table(), 1 << 34).refusal, 19);
+    assert_eq!(pieces_of(&state, 1, 1 << 34), Ok(vec![(16_384, (1 << 48) - 16_384)]));
 }

@@ -4,7 +4,8 @@ use lib.ListN.{length, drop}
 use Prim.Native.Nat.{_-_, _+_}
 use mathlib.Core.Path.{_≡_, sym, _∙_}
 use lib.Seq.{length-take-le}
-use Rattle.sigmf_datatypes.specs.Datatypes.{datatypes, twelve}
+use Rattle.sigmf_datatypes.specs.Datatypes.{datatypes}
+use Rattle.sigmf_datatypes.proofs.Laws.{counted}
 use Rattle.sigmf_texts.specs.Lookup.{indexIn}
 use Rattle.sigmf_texts.specs.Texts.{valueText, codeOf}
 use Rattle.sigmf_texts.proofs.DatatypeLaws.{named, listed-below, name-inside, datatype-here, datatype-later, datatype-over}
@@ -42,8 +43,7 @@ returns : tie.Need-returns Inv-loop μ-loop
 returns c = datatype-here (c .before .before .before .before .before .before .before .loop .code) _ _ (c .before .before .before .before .name .ensures) (c .before .before .before .name-length .ensures) _ _ (c .before .text-is .ensures) (sym (c .before .before .before .before .before .before .is-listed .ensures) ∙ (c .before .before .before .before .before .if1 .taken)) (c .if2 .taken) ∙ (c .before .before .before .before .before .before .before .loop .inv)
 
 add-code : tie.Need-add-code Inv-loop μ-loop
-unfolding datatypes twelve
-add-code c = omega (arith, listed-below (c .before .before .before .before .before .before .before .loop .code) (sym (c .before .before .before .before .before .before .is-listed .ensures) ∙ (c .before .before .before .before .before .if1 .taken)))
+add-code c = omega (arith, counted, listed-below (c .before .before .before .before .before .before .before .loop .code) (sym (c .before .before .before .before .before .before .is-listed .ensures) ∙ (c .before .before .before .before .before .if1 .taken)))
 
 loop-less : tie.Need-loop-less Inv-loop μ-loop
 loop-less c = omega (arith, listed-below (c .before .before .before .before .before .before .before .loop .code) (sym (c .before .before .before .before .before .before .is-listed .ensures) ∙ (c .before .before .before .before .before .if1 .taken)))

@@ -4,7 +4,7 @@ use Rattle.sigmf_names.specs.Names.{annotationFields}
 use Rattle.sigmf_names.specs.Lookup.{namesOfLength}
 use Rattle.sigmf_names.specs.LookupCode.{oneMore}
 use Rattle.sigmf_names.proofs.NameLaws.{then, count-more, placeFrom, by-length, oneOf, NoneOf, none-compared}
-use Rattle.sigmf_datatypes.proofs.Laws.{all as every}
+use Rattle.json_blocks.specs.Lists.{all}
 use mathlib.Core.List.{[], _∷_}
 use Rattle.json_blocks.specs.TextBytes.{ascii}
 use Rattle.json_names.specs.Same.{same}
@@ -122,7 +122,7 @@ returns-7 c =
     ∙ by-length annotationFields 20 text (sym (c .before .before .before .before .match .keys7))
 
 returns-8 : tie.Need-returns-8
-unfolding annotationFields every oneOf NoneOf
+unfolding annotationFields all oneOf NoneOf
 returns-8 c = none-compared annotationFields (20 ∷ 17 ∷ 14 ∷ 13 ∷ 12 ∷ 10 ∷ 9 ∷ []) (c .before .before .args .text .now) refl (c .match .rest)
 
 pub compare-annotation-spec : {M : Type 1} → statement M

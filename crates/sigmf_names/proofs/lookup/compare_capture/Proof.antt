@@ -4,7 +4,7 @@ use Rattle.sigmf_names.specs.Names.{captureFields}
 use Rattle.sigmf_names.specs.Lookup.{namesOfLength}
 use Rattle.sigmf_names.specs.LookupCode.{oneMore}
 use Rattle.sigmf_names.proofs.NameLaws.{then, count-more, placeFrom, by-length, oneOf, NoneOf, none-compared}
-use Rattle.sigmf_datatypes.proofs.Laws.{all as every}
+use Rattle.json_blocks.specs.Lists.{all}
 use mathlib.Core.List.{[], _∷_}
 use Rattle.json_blocks.specs.TextBytes.{ascii}
 use Rattle.json_names.specs.Same.{same}
@@ -78,7 +78,7 @@ returns-4 c =
     ∙ by-length captureFields 17 text (sym (c .before .before .before .before .before .before .match .keys4))
 
 returns-5 : tie.Need-returns-5
-unfolding captureFields every oneOf NoneOf
+unfolding captureFields all oneOf NoneOf
 returns-5 c = none-compared captureFields (17 ∷ 16 ∷ 14 ∷ 13 ∷ []) (c .before .before .args .text .now) refl (c .match .rest)
 
 pub compare-capture-spec : {M : Type 1} → statement M

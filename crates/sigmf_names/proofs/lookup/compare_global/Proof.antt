@@ -4,7 +4,7 @@ use Rattle.sigmf_names.specs.Names.{globalFields}
 use Rattle.sigmf_names.specs.Lookup.{namesOfLength}
 use Rattle.sigmf_names.specs.LookupCode.{oneMore}
 use Rattle.sigmf_names.proofs.NameLaws.{then, count-more, placeFrom, by-length, oneOf, NoneOf, none-compared}
-use Rattle.sigmf_datatypes.proofs.Laws.{all as every}
+use Rattle.json_blocks.specs.Lists.{all}
 use mathlib.Core.List.{[], _∷_}
 use Rattle.json_blocks.specs.TextBytes.{ascii}
 use Rattle.json_names.specs.Same.{same}
@@ -208,7 +208,7 @@ returns-10 c =
     ∙ by-length globalFields 19 text (sym (c .before .before .match .keys10))
 
 returns-11 : tie.Need-returns-11
-unfolding globalFields every oneOf NoneOf
+unfolding globalFields all oneOf NoneOf
 returns-11 c = none-compared globalFields (19 ∷ 18 ∷ 17 ∷ 16 ∷ 15 ∷ 13 ∷ 12 ∷ 11 ∷ 9 ∷ 7 ∷ []) (c .before .before .args .text .now) refl (c .match .rest)
 
 pub compare-global-spec : {M : Type 1} → statement M

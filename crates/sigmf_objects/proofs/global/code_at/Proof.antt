@@ -1,14 +1,13 @@
 use mathlib.Core.Path.{_∙_}
 use Rattle.sigmf_objects.proofs.GlobalLaws.{code-absent, code-is}
 use Rattle.sigmf_objects.proofs.ValueLaws.{part-sized}
-use Rattle.sigmf_datatypes.specs.Datatypes.{twelve, datatypes}
+use Rattle.sigmf_datatypes.proofs.Laws.{counted}
 use borrow.Author.Needs.{needs}
 use Rattle.sigmf_objects.proofs.global.code_at.Statement.{statement}
 use Rattle.sigmf_objects.proofs.global.code_at.Tie as tie
 
 returns : tie.Need-returns
-unfolding datatypes twelve
-returns c = code-absent (c .before .before .args .s .now) (c .before .before .args .place) (c .if1 .taken)
+returns c = counted ∙ code-absent (c .before .before .args .s .now) (c .before .before .args .place) (c .if1 .taken)
 
 sized-part-requires : tie.Need-sized-part-requires
 sized-part-requires c κs = search needs

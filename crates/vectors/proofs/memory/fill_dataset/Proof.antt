@@ -18,8 +18,8 @@ loop-holds c = search needs
 slice-write-v : tie.Need-slice-write-v Inv-loop μ-loop
 slice-write-v c = search needs
 
-wrapping-add-u8-requires : tie.Need-wrapping-add-u8-requires Inv-loop μ-loop
-wrapping-add-u8-requires c κs = search needs
+add-x : tie.Need-add-x Inv-loop μ-loop
+add-x c = search needs
 
 add-i : tie.Need-add-i Inv-loop μ-loop
 add-i c = search needs
@@ -44,7 +44,7 @@ fill-dataset-spec =
     μ-loop
     loop-holds
     slice-write-v
-    wrapping-add-u8-requires
+    add-x
     add-i
     loop-less
     loop-again
