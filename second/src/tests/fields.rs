@@ -36,28 +36,22 @@ fn uints() {
 fn datatype_list() {
     let names = datatypes();
     assert_eq!((names.len(), datatype_count()), (28, 28));
-    let known = [("rf32_le", 0), ("rf32_be", 1), ("ri32_le", 2), ("ri16_le", 4), ("ri16_be", 5), ("ru32_le", 6), ("ru16_be", 9)];
-    for (name, code) in known {
-        assert_eq!(datatype_code(name.as_bytes()), Some(code));
-    }
-    let known = [("ri8", 10), ("ru8", 11), ("cf32_le", 12), ("ci16_le", 16), ("ci8", 22), ("cu8", 23)];
-    for (name, code) in known {
-        assert_eq!(datatype_code(name.as_bytes()), Some(code));
-    }
-    let known = [("rf64_le", 24), ("rf64_be", 25), ("cf64_le", 26), ("cf64_be", 27)];
+    let known = [
+        ("rf32_le", 0), ("rf32_be", 1), ("ri32_le", 2), ("ri16_le", 4), ("ri16_be", 5), ("ru32_le", 6), ("ru16_be", 9), ("ri8", 10), ("ru8", 11),
+        ("cf32_le", 12), ("ci16_le", 16), ("ci8", 22), ("cu8", 23), ("rf64_le", 24), ("rf64_be", 25), ("cf64_le", 26), ("cf64_be", 27),
+    ];
     for (name, code) in known {
         assert_eq!(datatype_code(name.as_bytes()), Some(code));
     }
     for bad in ["i16_le", "ri8_le", "RU8", "rf64", "cf64", "rf64_LE", "", "ru8 ", "cf32"] {
         assert_eq!(datatype_code(bad.as_bytes()), None);
     }
-    let bytes = [4, 4, 4, 4, 2, 2, 4, 4, 2, 2, 1, 1];
-    for code in 0..24u64 {
-        let times = if code < 12 { 1 } else { 2 };
-        assert_eq!(sample_width(code, 3), Some(bytes[code as usize % 12] * times * 3));
-    }
-    for (code, width) in [(24, 8), (25, 8), (26, 16), (27, 16)] {
-        assert_eq!(sample_width(code, 1_024), Some(width * 1_024));
+    let real = [4, 4, 4, 4, 2, 2, 4, 4, 2, 2, 1, 1];
+    let widths: Vec<u128> = real.iter().copied().chain(real.map(|w| 2 * w)).chain([8, 8, 16, 16]).collect();
+    assert_eq!(widths.len(), names.len());
+    for (code, width) in (0..).zip(widths) {
+        assert_eq!(sample_width(code, 3), Some(3 * width));
+        assert_eq!(sample_width(code, 1_024), Some(1_024 * width));
     }
     assert_eq!(sample_width(datatype_count(), 1), None);
 }
