@@ -18,6 +18,8 @@ fail() {
 
 misused() { fail "$*; see $name --help"; }
 
+no_option() { misused "there is no option $(show "$1")"; }
+
 # A name as the listing shows labels: in quotes, with bytes outside 0x20 to 0x7E, quotes and backslashes as \x and two digits. So no
 # file's name prints a line of its own.
 show() {
@@ -30,9 +32,12 @@ show() {
     printf '"'
 }
 
-# A refusal, in every command: document 01's number and sentence, for 13 with request P3's rule, on standard error, exit status 1.
+# A program's answer that is a refusal, in every command: document 01's number and sentence, for 13 with request P3's rule, or request P5's, on
+# standard error, exit status 1.
 refuse() {
-    case $1 in
+    number=${1#refused }
+    number=${number%"$newline"}
+    case $number in
     1) why="metadata empty or too long, or D above 2^48" ;;
     2) why="not one JSON value in valid UTF-8, or nested beyond 32" ;;
     3) why="some object, however deep, has a name twice or over 256 members" ;;
@@ -50,10 +55,13 @@ refuse() {
     15) why="captures or annotations not ascending by start" ;;
     16) why="headers and trailer exceed D, or the rest isn't whole samples" ;;
     17) why="an index outside the dataset, or the end index above 2^64 - 1" ;;
+    18) why="a table handed back in is not well formed, or doesn't fit the metadata or dataset lent with it" ;;
     20) why="the answer needs more rows, pieces or bytes than the lent memory holds" ;;
-    *) fail "the program answered 'refused' and the unknown number $(show "$1")" ;;
+    21) why="wrong mark or version of a stored table" ;;
+    22) why="wrong length for the counts of a stored table" ;;
+    *) fail "the program answered 'refused' and the unknown number $(show "$number")" ;;
     esac
-    say "refused $1: $why"
+    say "refused $number: $why"
     exit 1
 }
 
@@ -65,10 +73,17 @@ open_output() {
 }
 
 put() { # TEXT
-    reason=$(printf '%s' "$1" | cat 2>&1 >&3) && return
-    reason=${reason##*: }
-    say "$name: the answer could not be written: ${reason:-nobody reads it}"
+    reason=$(printf '%s' "$1" | copy_out) && return
+    say "$name: $reason"
     exit "${unwritten:-2}"
+}
+
+# Copies its input there; where it can't, prints why.
+copy_out() {
+    why=$(cat 2>&1 >&3) && return
+    why=${why##*: }
+    printf 'the answer could not be written: %s' "${why:-nobody reads it}"
+    return 1
 }
 
 # The $2 $1 is a regular file: no folder, and neither a pipe nor a device, which may never end. $3: advice if it is not there
@@ -78,29 +93,75 @@ need_file() {
     [ -f "$1" ] || fail "the $2 $(show "$1") is a pipe or a device; name a regular file"
 }
 
-# Asks `program`. It is given the line $1, or none, then the file $2 (- is standard input) up to one byte past the longest text. Sets
-# `answer`: whole lines of an answer, each of which begins with one of the words $3. A text that can't be read is marked by a byte
-# that no answer holds, with the reason.
+# Sets `size` to the length of the $2 $1.
+measure() { size=$(stat -Lc %s -- "$1" 2>&1) || fail "the length of the $2 $(show "$1") is not known: ${size##*: }"; }
+
+# ---- recordings: `dataset`, `length` and `table` are what was told of one
+# $1 names a recording of which the dataset stands beside it, or something is told.
+need_recording() {
+    [ -z "$dataset$length$table" ] || return 0
+    case $1 in
+    -) misused "with - the dataset is told by --length N or --dataset FILE" ;;
+    *.sigmf-meta) ;;
+    *) misused "$(show "$1") does not end in .sigmf-meta; a dataset of another name goes with --dataset FILE" ;;
+    esac
+}
+
+# Sets `size` to the length of the dataset of the recording $1.
+measure_dataset() {
+    size=$length
+    [ -z "$size" ] || return 0
+    data=${dataset:-${1%.sigmf-meta}.sigmf-data}
+    need_file "$data" dataset "; a dataset of another name goes with --dataset FILE"
+    measure "$data" dataset
+}
+
+# ---- asking
+# Says on descriptor 4 why there is no answer, between two bytes that no answer holds.
+no_answer() { printf '%s%s%s' "$mark" "$1" "$mark" >&4; }
+
+# Gives the program the first $1 bytes of the $3 $2 (- is standard input). One that can't be read is followed by a byte that no JSON text
+# holds, so that its beginning is not stored.
+take() {
+    reason=$(head -c "$1" -- "$2" 2>&1 >&6)
+    case $?${reason##*: } in
+    0 | 141 | ?'Broken pipe') ;; # 141 and a broken pipe: the program ended first
+    *)
+        no_answer "the $3 $(show "$2") could not be read: ${reason##*: }"
+        printf '%s' "$mark" 2> /dev/null
+        ;;
+    esac
+}
+
+# Runs the program: the answer is what it says, and its status. If $1 is given, it takes the standard output, and the answer is the rest.
+run_program() {
+    if [ -z "$1" ]; then
+        "$program" 2>&1 4>&-
+        printf 'status %s' "$?"
+    else
+        {
+            "$program" 2>&4 4>&-
+            printf 'status %s' "$?" >&4
+        } | "$1"
+    fi
+}
+
+# Asks `program`. It is given the line $1, or none, the stored table $4 of the length that the line tells, or none, then the file $2 up to one
+# byte past the longest text. Sets `answer`: whole lines of an answer, each of which begins with one of the words $3. $5 as for run_program.
 ask() {
     answer=$(
         {
             {
                 [ -z "$1" ] || printf '%s\n' "$1"
-                reason=$(head -c "$((longest + 1))" -- "$2" 2>&1 >&6)
-                case $?${reason##*: } in
-                0 | 141 | ?'Broken pipe') ;; # 141 and a broken pipe: the program ended first
-                *) printf '%s%s%s' "$mark" "${reason##*: }" "$mark" >&4 ;;
-                esac
-            } 6>&1 | {
-                "$program" 2>&1 4>&-
-                printf 'status %s' "$?"
-            }
+                [ -z "${4-}" ] || take "$1" "$4" "stored table"
+                take "$((longest + 1))" "$2" "text of"
+            } 6>&1 | run_program "${5-}"
         } 4>&1
     )
     case $answer in
     *"$mark"*"$mark"*)
         reason=${answer#*"$mark"}
-        fail "the text of $(show "$2") could not be read: ${reason%%"$mark"*}"
+        fail "${reason%%"$mark"*}"
         ;;
     *'status 0') answer=${answer%'status 0'} ;;
     *) fail "the program $(show "$program") ended with the status $(show "${answer##*status }")" ;;
@@ -147,7 +208,7 @@ digests() { printf 'program %s\nsources %s\n' "$(program_digest "$1")" "$2"; }
 is_current() {
     [ -x "$1" ] && [ -r "$1.digests" ] || return 1
     [ "$(cat "$1.digests")" = "$(digests "$1" "$2")" ] || return 1
-    case $(printf '\n' | "$1" 2> /dev/null) in 'refused '[12]) return 0 ;; *) return 1 ;; esac
+    case $(printf '\n' | "$1" 2>&1) in 'refused '[12]) return 0 ;; *) return 1 ;; esac
 }
 
 # Sets `program` to the program $1: that of bin/, or one built before, if it was built from the sources as they are; or it is built.

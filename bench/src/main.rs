@@ -1,13 +1,17 @@
 // Times the judge and the reader against serde_json on texts of each kind and length, the copy against memcpy, pieces and places
-// by the row, and the writer against serde_json, all interleaved, and prints ratios.
+// by the row, the writer against serde_json, and the load of a stored table against the reader, all interleaved, and prints ratios.
 mod copies;
 #[path = "../../crates/export/export.rs"]
 #[allow(dead_code)]
 mod export;
+#[path = "../../crates/export_stored/export_stored.rs"]
+mod export_stored;
 #[path = "../../crates/export_writer/export_writer.rs"]
 mod export_writer;
+mod plain;
 mod rows;
 mod shared;
+mod stored;
 mod texts;
 mod typed;
 mod writes;
@@ -203,4 +207,5 @@ fn main() {
     copies::print_copies(rounds);
     rows::print_rows(rounds);
     writes::print_writes(rounds);
+    stored::print_stored(rounds);
 }

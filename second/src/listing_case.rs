@@ -1,5 +1,5 @@
-//! One case about label lookup, the listing or the metadata written from a table:
-//! the table, the metadata lent with it and what is asked.
+//! One case about label lookup, the listing, the metadata written from a table or
+//! its stored form: the table, the metadata lent with it and what is asked.
 
 use crate::frames::Case;
 use crate::steps::State;
@@ -18,6 +18,8 @@ pub const LOOKUP: u8 = b'l';
 pub const LISTING: u8 = b'p';
 /// The metadata of the table is written.
 pub const WRITING: u8 = b'w';
+/// The table is stored.
+pub const STORING: u8 = b'b';
 
 /// A table handed in beside metadata.
 #[derive(Clone, PartialEq, Eq, Debug)]

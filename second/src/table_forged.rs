@@ -71,7 +71,7 @@ pub const FORGERIES: &[Forgery] = &[
 ];
 
 /// One more or one less; two, once in 8 times.
-fn nudged(x: u64, rng: &mut Rng) -> u64 {
+pub fn nudged(x: u64, rng: &mut Rng) -> u64 {
     let one = if rng.once_in(8) { 2 } else { 1 };
     if rng.once_in(2) {
         x.wrapping_add(one)

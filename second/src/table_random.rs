@@ -78,7 +78,7 @@ pub fn needs(table: &Table, a: u64, b: u64) -> Needs {
 }
 
 /// Numbers for so many rows: just enough, one too few, some more, any.
-fn room(rows: u64, width: u64, rng: &mut Rng) -> u64 {
+pub fn room(rows: u64, width: u64, rng: &mut Rng) -> u64 {
     let enough = rows * width;
     let size = match rng.below(8) {
         0 | 1 => enough,
@@ -105,7 +105,7 @@ fn length(bytes: u64, rng: &mut Rng) -> u64 {
 }
 
 /// Room for so many bytes, or too little once in 4 times.
-fn byte_room(bytes: u64, rng: &mut Rng) -> u64 {
+pub fn byte_room(bytes: u64, rng: &mut Rng) -> u64 {
     if rng.once_in(4) {
         bytes.saturating_sub(rng.between(1, 3) as u64).min(BYTES_MAX)
     } else {
@@ -145,7 +145,7 @@ pub fn range_inside(state: &State, rng: &mut Rng) -> (u64, u64) {
 }
 
 /// An honest table, by the reader from a random text.
-fn random_table(rng: &mut Rng) -> State {
+pub fn random_table(rng: &mut Rng) -> State {
     let code = random_code(rng);
     let channels = [1, 1, 1, 1, 2, 3, 7, 16, 1_024][rng.below(9)];
     let width = sample_width(code, channels).unwrap_or(1) as u64;

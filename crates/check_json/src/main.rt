@@ -3,6 +3,8 @@
 use json_judge::Judged;
 use json_judge::judge;
 use limits::Limits;
+use standard_streams::is_unread;
+use standard_streams::refuse;
 
 // One byte more than the longest text, to tell a longer one.
 const ROOM: usize = Limits::METADATA + 1;
@@ -16,42 +18,29 @@ fn main() {
             return;
         }
     }
-    if n == 0 {
-        print(b"refused 1\n");
-        return;
-    }
-    let limits = Limits::new();
-    if limits.metadata < n {
-        print(b"refused 1\n");
-        return;
-    }
-    answer(&room[..n]);
-}
-
-// The input does not end here: another read gives a byte or fails.
-fn is_unread() -> bool {
-    let mut one = [0u8; 1];
-    libc::read(0, &mut one) != 0
-}
-
-fn answer(text: &[u8]) {
-    let j = judge(text);
-    match j {
-        Judged::Good => {
-            print(b"good\n");
-        }
-        Judged::NotJson => {
-            print(b"refused 2\n");
-        }
-        Judged::BadMembers => {
-            print(b"refused 3\n");
-        }
-    }
-}
-
-fn print(bytes: &[u8]) {
-    if io::write_all(1, bytes) {
+    if run(&room[..n]) {
         return;
     }
     io::write_all(2, b"check_json: the answer could not be written\n");
+}
+
+// Answers a text; whether the answer was written.
+fn run(text: &[u8]) -> bool {
+    if text.len() == 0 {
+        return refuse(1, 1);
+    }
+    let limits = Limits::new();
+    if limits.metadata < text.len() {
+        return refuse(1, 1);
+    }
+    answer(text)
+}
+
+fn answer(text: &[u8]) -> bool {
+    let j = judge(text);
+    match j {
+        Judged::Good => io::write_all(1, b"good\n"),
+        Judged::NotJson => refuse(1, 2),
+        Judged::BadMembers => refuse(1, 3),
+    }
 }

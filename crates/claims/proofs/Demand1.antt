@@ -8,8 +8,8 @@ use lib.ListN.{length}
 use lib.Dec.{leb, ltb, eqb}
 use borrow.Author.Tests.{ne-eqb}
 use Rattle.limits.specs.Limits.{metadata, nesting}
-use Rattle.refusals.specs.Refusals.{Rule, rule, lowest, ByRules}
-use Rattle.refusals.proofs.RuleLaws.{rising, lowest-by}
+use Rattle.refusals.specs.Refusals.{Rule, rule, lowest, ByRules, ByOrder}
+use Rattle.refusals.proofs.RuleLaws.{rising, lowest-by, numbered, lowest-order}
 use Rattle.json_grammar.specs.Grammar.{Text}
 use Rattle.json_grammar.specs.ByPlace.{isJson}
 use Rattle.json_grammar.proofs.Theorem.{json-is-grammar}
@@ -32,13 +32,16 @@ use Rattle.listing_labels.specs.Label.{labelRefused}
 use Rattle.listing.specs.Listing.{listingOf, listingAnswer}
 use Rattle.writer.specs.Metadata.{metadataOf}
 use Rattle.writer.specs.Writer.{rateOk, writable, writerAnswer}
+use Rattle.table_stored.specs.Form.{storedOf, tableIn}
+use Rattle.table_stored.specs.Store.{storeAnswer}
+use Rattle.table_stored.specs.Load.{opens, lengthOk, loadAnswer}
 use Rattle.reader.specs.Reading.{readRules, contents, judgedRecording, readRefusal, readAnswer, capturesRead, annotationsRead}
 use Rattle.claims_accepted.proofs.Accepted.{or-number, read-number}
 use Rattle.claims_derived.specs.Derived.{top}
 use Rattle.claims_derived.specs.Rules.{badNode}
 use Rattle.claims_derived.proofs.Refusal3.{bad-same}
 use Rattle.export_listing.specs.LabelPlace.{labelledAt, labelled}
-use Rattle.claims.specs.Demand1.{AnswerKind, EntryCall, answerNumber, Refuses, RefusesBy, summaries, places, counts, labels, JudgedBy, judging, reading, summing, laying, layRules, locateRules, locating, labelRules, labelling, labellingPlace, piecesRules, piecing, cutRules, cutting, copyRules, copying, listingRules, listing, writerRules, writing, OfTable, Demand1}
+use Rattle.claims.specs.Demand1.{AnswerKind, EntryCall, answerNumber, Refuses, RefusesBy, RefusesInOrder, summaries, places, counts, labels, JudgedBy, judging, reading, summing, laying, layRules, locateRules, locating, labelRules, labelling, labellingPlace, piecesRules, piecing, cutRules, cutting, copyRules, copying, listingRules, listing, writerRules, writing, storeRules, storing, loadRules, loading, OfTable, Demand1}
 
 -- ---- answers by rules
 -- the number is the lowest of the rules, and stands alone unless it is 0
@@ -49,6 +52,10 @@ record By {A : Type 0} (k : AnswerKind A) (rs : List Rule) (x : A) : Type 0 wher
 -- a call that answers so, by rules in the order of their numbers
 refuses : {A : Type 0} (c : EntryCall A) (rs : List Rule) → By (c .kind) rs (c .answer) → rising 0 rs ≡ true → ((answerNumber c ≡ 0 → ⊥) → c .after ≡ c .before) → RefusesBy rs c
 refuses c rs b o k = record { number = subst (λ (n : ℕ). ByRules n rs) (sym (b .number)) (lowest-by 0 rs o); refusal = record { alone = b .alone; keeps = k } }
+
+-- and by rules in another order
+refuses-in-order : {A : Type 0} (c : EntryCall A) (rs : List Rule) → By (c .kind) rs (c .answer) → numbered rs ≡ true → ((answerNumber c ≡ 0 → ⊥) → c .after ≡ c .before) → RefusesInOrder rs c
+refuses-in-order c rs b o k = record { number = subst (λ (n : ℕ). ByOrder n rs) (sym (b .number)) (lowest-order rs o); refusal = record { alone = b .alone; keeps = k } }
 
 -- a stage refuses with its number, or leaves the answer to what follows
 module _ {A : Type 0} (k : AnswerKind A) (its : (n : ℕ) → k .number (k .zeros n) ≡ n) where
@@ -214,6 +221,12 @@ module _ (t : Table) where
       (λ _. stage counts (λ n. refl) (leb n (length m) && leb n metadata) _ (either (leb n (length m)) (leb n metadata)) _ 20 [] (λ _. accepted counts _ refl)))
       refl (λ h. one-kept (kept _ _ _ h))
 
+  store : (m : List ℕ) → RefusesBy (storeRules t m) (storing t m)
+  unfolding storeAnswer rising
+  store m = refuses (storing t m) (storeRules t m)
+      (stage counts (λ n. refl) well _ refl _ 18 _ (λ _. stage counts (λ n. refl) (leb (length (storedOf t)) (length m)) _ refl _ 20 [] (λ _. accepted counts _ refl)))
+      refl (λ h. one-kept (kept _ _ _ h))
+
   of-table : OfTable t
   of-table = record {
     locate = locate;
@@ -224,7 +237,23 @@ module _ (t : Table) where
     copy = λ d a b m. copy a b d m;
     list = list;
     write = write;
+    store = store;
   }
 
+-- ---- a stored table
+module _ (f caps notes : List ℕ) where
+  load : RefusesInOrder (loadRules f caps notes) (loading f caps notes)
+  unfolding loadAnswer tableIn numbered
+  load =
+      let t = tableIn f .summary in
+      let x = leb (captureWidth * t .captures) (length caps) in
+      let y = leb (annotationWidth * t .annotations) (length notes) in
+      refuses-in-order (loading f caps notes) (loadRules f caps notes)
+      (stage summaries (λ n. refl) (opens f) _ refl _ 21 _
+      (λ _. stage summaries (λ n. refl) (lengthOk f) _ refl _ 22 _
+      (λ _. stage summaries (λ n. refl) (wellFormed (tableIn f)) _ refl _ 18 _
+      (λ e. stage summaries (λ n. refl) (x && y) _ (either x y) _ 20 [] (λ _. accepted summaries _ (formed t (tableIn f .captures) (tableIn f .annotations) e .nums .said))))))
+      refl (λ h. both-kept (kept _ _ _ h) (kept _ _ _ h))
+
 pub demand-1 : Demand1
-demand-1 = record { judgeText = judge-text; judge = judge; read = read; summary = lay-summary; lay = lay; table = of-table }
+demand-1 = record { judgeText = judge-text; judge = judge; read = read; summary = lay-summary; lay = lay; table = of-table; load = load }

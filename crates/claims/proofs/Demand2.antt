@@ -262,7 +262,7 @@ unfolding rowsFrom
 rows-same f g zero i h = refl
 rows-same f g (suc n) i h = rw (h i (omega arith), rows-same f g n (suc i) (λ k l. h k (omega arith)))
 
-all-same : {A : Type 0} (f g : ℕ → A) (n : ℕ) → ((k : ℕ) → k < n → f k ≡ g k) → rest f n 0 ≡ rest g n 0
+pub all-same : {A : Type 0} (f g : ℕ → A) (n : ℕ) → ((k : ℕ) → k < n → f k ≡ g k) → rest f n 0 ≡ rest g n 0
 all-same f g n h = rows-same f g (n - 0) 0 (λ k l. h k (omega arith))
 
 module _ (s : List ℕ) (d : ℕ) (caps notes : List ℕ) (r u : Summary) (m k w x : List ℕ) (p : ReadBy s d caps notes r m k) (q : ReadBy s d caps notes u w x) where

@@ -10,7 +10,7 @@ use lib.ListN.{length}
 use lib.Dec.{eqb, leb, ltb}
 use Rattle.limits.specs.Limits.{metadata, nesting}
 use Rattle.json_grammar.specs.Grammar.{Text}
-use Rattle.refusals.specs.Refusals.{Rule, rule, lowest, ByRules}
+use Rattle.refusals.specs.Refusals.{Rule, rule, lowest, ByRules, ByOrder}
 use Rattle.json_judge.specs.Judged.{judgeRules}
 use Rattle.table.specs.declared.Summary.{Summary}
 use Rattle.table.specs.declared.Located.{Located}
@@ -29,6 +29,9 @@ use Rattle.listing_labels.specs.Label.{labelRefused}
 use Rattle.listing.specs.Listing.{listingOf, listingAnswer, listingMemory}
 use Rattle.writer.specs.Metadata.{metadataOf}
 use Rattle.writer.specs.Writer.{rateOk, writerAnswer, writerMemory}
+use Rattle.table_stored.specs.Form.{storedOf, tableIn}
+use Rattle.table_stored.specs.Store.{storeAnswer, storeMemory}
+use Rattle.table_stored.specs.Load.{opens, lengthOk, loadAnswer, capturesLoaded, annotationsLoaded}
 use Rattle.reader.specs.Reading.{judgedRecording, readAnswer, capturesRead, annotationsRead}
 use Rattle.claims_derived.specs.Derived.{top}
 use Rattle.claims_derived.specs.Rules.{badNode}
@@ -61,6 +64,11 @@ pub record Refuses {A : Type 0} (c : EntryCall A) : Type 0 where
 pub record RefusesBy {A : Type 0} (rules : List Rule) (c : EntryCall A) : Type 0 where
   -- "The answer is the smallest number whose condition holds"; "0 is acceptance"
   pub number : ByRules (answerNumber c) rules
+  pub refusal : Refuses c
+
+-- "Where a later request .. fixes another order .. its functions follow the request, and demand 1 is read so": by conditions in that order
+pub record RefusesInOrder {A : Type 0} (rules : List Rule) (c : EntryCall A) : Type 0 where
+  pub number : ByOrder (answerNumber c) rules
   pub refusal : Refuses c
 
 -- ---- the kinds of answers
@@ -113,6 +121,11 @@ laying k d caps notes = record {
 abbrev pub layRules : Contents → ℕ → List ℕ → List ℕ → List Rule
 layRules k d caps notes = layoutRules k d ++ (rule 20 (tooMany k caps notes) ∷ [])
 
+-- ---- room
+-- 20: "the answer needs more rows, pieces or bytes than the lent memory holds"
+abbrev pub short : ℕ → List ℕ → Bool
+short n m = not (leb n (length m))
+
 -- ---- of a table t
 module _ (t : Table) where
   -- 18: "a table handed back in is not well formed, or doesn't fit the metadata or dataset lent with it"
@@ -128,10 +141,6 @@ module _ (t : Table) where
 
   abbrev pub noAnnotation : ℕ → Bool
   noAnnotation n = not (ltb n (t .summary .annotations))
-
-  -- 20: "the answer needs more rows, pieces or bytes than the lent memory holds"
-  abbrev pub short : ℕ → List ℕ → Bool
-  short n m = not (leb n (length m))
 
   -- "Locating a sample and looking up a label give 18 or 19"
   abbrev pub locateRules : ℕ → List Rule
@@ -197,7 +206,32 @@ module _ (t : Table) where
   abbrev pub writing : List ℕ → List ℕ → EntryCall Wrote
   writing s m = record { kind = counts; answer = writerAnswer t s (length m); before = m ∷ []; after = writerMemory t s m ∷ [] }
 
--- ---- the entries; those of `export`, `export_listing` and `export_writer` answer and write the same
+  -- request P5: "a table that isn't well formed .. is 18 on either path; 20 for room"
+  abbrev pub storeRules : List ℕ → List Rule
+  storeRules m = rule 18 malformed ∷ rule 20 (short (length (storedOf t)) m) ∷ []
+
+  abbrev pub storing : List ℕ → EntryCall Wrote
+  storing m = record { kind = counts; answer = storeAnswer t (length m); before = m ∷ []; after = storeMemory t m ∷ [] }
+
+-- ---- a stored table, f being the bytes of its file; request P5: "Lowest number first, except that 21 and 22 are judged before 18"
+-- "21 wrong mark or version, 22 wrong length for its counts"; 18 "on reading, with the file's own rows"
+abbrev pub loadRules : List ℕ → List ℕ → List ℕ → List Rule
+loadRules f caps notes =
+    rule 21 (not (opens f))
+    ∷ rule 22 (not (lengthOk f))
+    ∷ rule 18 (malformed (tableIn f))
+    ∷ rule 20 (short (captureWidth * tableIn f .summary .captures) caps || short (annotationWidth * tableIn f .summary .annotations) notes)
+    ∷ []
+
+abbrev pub loading : List ℕ → List ℕ → List ℕ → EntryCall Summary
+loading f caps notes = record {
+  kind = summaries;
+  answer = loadAnswer f (length caps) (length notes);
+  before = caps ∷ notes ∷ [];
+  after = capturesLoaded f caps notes ∷ annotationsLoaded f caps notes ∷ [];
+}
+
+-- ---- the entries; those of `export`, `export_listing`, `export_writer` and `export_stored` answer and write the same
 pub record OfTable (t : Table) : Type 0 where
   pub locate : (i : ℕ) → RefusesBy (locateRules t i) (locating t i)
   pub label : (s : List ℕ) (n : ℕ) → RefusesBy (labelRules t s n) (labelling t s n)
@@ -207,6 +241,7 @@ pub record OfTable (t : Table) : Type 0 where
   pub copy : (d : List ℕ) (a b : ℕ) (m : List ℕ) → RefusesBy (copyRules t d a b m) (copying t d a b m)
   pub list : (s m : List ℕ) → RefusesBy (listingRules t s m) (listing t s m)
   pub write : (s m : List ℕ) → RefusesBy (writerRules t s m) (writing t s m)
+  pub store : (m : List ℕ) → RefusesBy (storeRules t m) (storing t m)
 
 pub record Demand1 : Type 0 where
   pub judgeText : (s : List ℕ) → JudgedBy s (lowest (judgeRules s))
@@ -215,3 +250,4 @@ pub record Demand1 : Type 0 where
   pub summary : (k : Contents) (d : ℕ) → RefusesBy (layoutRules k d) (summing k d)
   pub lay : (k : Contents) (d : ℕ) (caps notes : List ℕ) → RefusesBy (layRules k d caps notes) (laying k d caps notes)
   pub table : (t : Table) → OfTable t
+  pub load : (f caps notes : List ℕ) → RefusesInOrder (loadRules f caps notes) (loading f caps notes)

@@ -5,12 +5,12 @@ use Prim.Native.Nat.{ℕ, zero, suc, _<_}
 use native.Mathlib.Omega.{arith}
 use lib.ListN.{length}
 use lib.Dec.{eqb}
-use borrow.Author.Tests.{eqb-true, eqb-false, ltb-true}
+use borrow.Author.Tests.{eqb-true, eqb-false}
 use Rattle.json_blocks.specs.TextBytes.{within}
 use Rattle.json_blocks.specs.Lists.{all}
 use Rattle.json_names.specs.Same.{same}
 use Rattle.sigmf_datatypes.specs.Datatypes.{Datatype, isListed, datatypes, twelve, datatypeOf, datatypeName}
-use Rattle.sigmf_datatypes.proofs.Laws.{at-every}
+use Rattle.sigmf_datatypes.proofs.Laws.{at-every, listed-below}
 use Rattle.sigmf_texts.specs.Lookup.{indexIn}
 use Rattle.sigmf_texts.specs.Texts.{codeOf}
 use Rattle.table.proofs.Bools.{and-left, and-right}
@@ -34,5 +34,5 @@ unfolding datatypes twelve all ordinary within
 name-plain c = at-every (λ (d : Datatype). all ordinary (d .name)) refl refl c
 
 pub code-back : (c : ℕ) → isListed c ≡ true → codeOf (datatypeName c) ≡ c
-unfolding isListed datatypes twelve datatypeOf below indexIn same
-code-back c h = eqb-true _ _ (below-at (λ k. eqb (codeOf (datatypeName k)) k) (length datatypes) c refl (ltb-true c (length datatypes) h))
+unfolding datatypes twelve datatypeOf below indexIn same
+code-back c h = eqb-true _ _ (below-at (λ k. eqb (codeOf (datatypeName k)) k) (length datatypes) c refl (listed-below c h))

@@ -15,9 +15,10 @@ use Rattle.table.specs.Samples.{headerSum}
 use Rattle.table.specs.Table.{ownEntry, ownEntries}
 use Rattle.table.proofs.TableLaws.{Formed}
 use Rattle.reader_layout.specs.Layout.{Contents, widthIn, headersAndTrailer, samplesIn, endIndex, unordered, notWhole, indexOutside, sampleRules, capturesIn, annotationsIn, summaryIn, tooMany}
-use Rattle.reader_layout.proofs.EntryLaws.{rest-length}
+use Rattle.table.proofs.RowLaws.{rest-length}
 use Rattle.claims_derived.proofs.Nodes.{Both}
-use Rattle.claims_written.specs.ReadBack.{SameText, SameAnnotations, rateAt, RoomFor}
+use Rattle.claims.specs.Room.{RoomFor}
+use Rattle.claims_written.specs.ReadBack.{SameText, SameAnnotations, rateAt}
 use Rattle.claims_written.proofs.TableBack.{NoteRead, captures-up, captures-inside, captures-same, notes-up, notes-inside, notes-same, both-length}
 
 pub record Agrees (t : Table) (s w : List ℕ) (k : Contents) : Type 0 where

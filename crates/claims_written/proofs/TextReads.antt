@@ -28,7 +28,8 @@ use Rattle.claims_derived.specs.Rules.{rulesBy, rulesOf, contentsOf}
 use Rattle.claims_derived.proofs.Nodes.{Both}
 use Rattle.claims_derived.proofs.Agrees.{contents-same, read-with, passed-both}
 use Rattle.writer.specs.Metadata.{metadataOf}
-use Rattle.claims_written.specs.ReadBack.{SameText, SameAnnotations, rateAt, ReadsBack, RoomFor}
+use Rattle.claims.specs.Room.{RoomFor}
+use Rattle.claims_written.specs.ReadBack.{SameText, SameAnnotations, rateAt, ReadsBack}
 use Rattle.claims_written.proofs.Pieces.{Some, objectOf}
 use Rattle.claims_written.proofs.Plan.{Note, Plan, topValue, planText, planned}
 use Rattle.claims_written.proofs.Whole.{SmallPlan, Planned, planned-reads}

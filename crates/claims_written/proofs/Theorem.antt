@@ -20,7 +20,8 @@ use Rattle.table_steps.specs.Steps.{Step, stepAccepted, left, step, run}
 use Rattle.listing.specs.Listing.{listingAnswer}
 use Rattle.writer.specs.Metadata.{metadataOf}
 use Rattle.writer.specs.Writer.{writable, textFits, writerAnswer}
-use Rattle.claims_written.specs.ReadBack.{tableBack, RoomFor, ReadsBack, textWritten, Again, Written, Delivered, as-read, cut-of, WrittenByRoom, WrittenReadsBack}
+use Rattle.claims.specs.Room.{RoomFor}
+use Rattle.claims_written.specs.ReadBack.{tableBack, ReadsBack, textWritten, Again, Written, Delivered, as-read, cut-of, WrittenByRoom, WrittenReadsBack}
 use Rattle.claims_written.proofs.Numbers.{number-grammar}
 use Rattle.claims_written.proofs.Writable.{Writable, writable-is, is-writable, read-writable, cut-writable}
 use Rattle.claims_written.proofs.TextReads.{text-derived, text-reads}

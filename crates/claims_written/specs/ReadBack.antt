@@ -4,7 +4,7 @@ use mathlib.Core.Path.{_≡_}
 use mathlib.Core.Logic.{_↔_}
 use mathlib.Core.Bool.{true, cond}
 use mathlib.Core.List.{List, [], _∷_}
-use Prim.Native.Nat.{ℕ, _*_, _≤_}
+use Prim.Native.Nat.{ℕ, _≤_}
 use lib.ListN.{length, take}
 use Rattle.limits.specs.Limits.{nesting}
 use Rattle.json_grammar.specs.Grammar.{Number, Text}
@@ -12,7 +12,7 @@ use Rattle.table.specs.declared.Place.{Place}
 use Rattle.table.specs.declared.Annotation.{Annotation}
 use Rattle.table.specs.declared.Summary.{Summary}
 use Rattle.table.specs.Place.{absent}
-use Rattle.table.specs.Rows.{captureWidth, annotationWidth, Table, table, capturesOf, annotationsOf}
+use Rattle.table.specs.Rows.{Table, table, capturesOf, annotationsOf}
 use Rattle.table.specs.Wrote.{wrote}
 use Rattle.table_cuts.specs.Cut.{cutAnswer, cutCaptureMemory, cutAnnotationMemory}
 use Rattle.table_steps.specs.Calls.{Held}
@@ -22,6 +22,7 @@ use Rattle.listing_labels.specs.Text.{part}
 use Rattle.listing.specs.Listing.{listingAnswer, listingMemory}
 use Rattle.writer.specs.Metadata.{metadataOf}
 use Rattle.writer.specs.Writer.{isNumber, writable, textFits, writerAnswer, writerMemory}
+use Rattle.claims.specs.Room.{RoomFor}
 
 -- ---- "the same table; only text places may differ, and the texts found there are equal bytes"
 -- the text at p in s, and the one at q in w: present together
@@ -70,11 +71,6 @@ tableBack t w caps notes = tableRead w (t .summary .size) caps notes
 pub record ReadsBack (t : Table) (s w caps notes : List ℕ) : Type 0 where
   pub accepted : tableBack t w caps notes .summary .refusal ≡ 0
   pub same : SameTable t s (tableBack t w caps notes) w
-
--- "claims about reading or converting back take room enough"
-pub record RoomFor (t : Table) (caps notes : List ℕ) : Type 0 where
-  pub captures : captureWidth * t .summary .captures ≤ length caps
-  pub annotations : annotationWidth * t .summary .annotations ≤ length notes
 
 -- ---- what the writer leaves
 -- "a writer reports the bytes it wrote": so many, from the front of the lent output

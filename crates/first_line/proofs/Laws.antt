@@ -1,21 +1,21 @@
 -- Laws of the first line.
 use Prim.Native.Nat.{ℕ, _+_, _-_, _*_, _^_, _≤_, _<_}
 use mathlib.Core.Path.{_≡_, refl, sym, ap, _∙_}
-use mathlib.Core.Bool.{Bool, true, false, _&&_, false≢true}
+use mathlib.Core.Bool.{Bool, true, false, _&&_}
 use mathlib.Core.List.{List, [], _∷_}
 use native.Mathlib.Omega.{arith}
 use native.Mathlib.Numerals.{add-one}
-use lib.ListN.{length, take, drop, drop-of-length-le, length-take}
-use lib.Seq.{drop-cons, getD-take}
-use lib.Dec.{eqb, leb}
-use borrow.Author.Tests.{le-leb, lt-leb, eq-eqb, ne-eqb, eqb-true}
+use lib.ListN.{length, take, drop, drop-of-length-le, length-take, length-drop}
+use lib.Seq.{drop-cons, drop-length, getD-take, take-all, take-nil}
+use lib.Dec.{eqb}
+use borrow.Author.Tests.{le-leb, lt-leb, eq-eqb, ne-eqb}
 use Rattle.json_blocks.specs.TextBytes.{byte, within}
 use Rattle.json_blocks.specs.Lists.{numberFrom}
 use Rattle.json_tokens.specs.Number.{digit, skipDigits}
-use Rattle.json_blocks.proofs.ByteLaws.{inside, cond-elim, within-above, good-inside, skip-on, skip-out, skip-onward}
+use Rattle.json_blocks.proofs.ByteLaws.{within-above, good-inside, skip-on, skip-out, skip-onward}
 use Rattle.json_tokens.proofs.NumberLaws.{no-digit}
-use Rattle.refusals.specs.Answer.{Answer, accepted, refused}
-use Rattle.first_line.specs.FirstLine.{digitCount, leadingNumber, isFirstLine, Line, line, firstLine}
+use Rattle.refusals.specs.Answer.{accepted, refused}
+use Rattle.first_line.specs.FirstLine.{digitCount, leadingNumber, isFirstLine, line, firstLine}
 
 and-none : (a : Bool) → a && false ≡ false
 and-none true = refl
@@ -104,24 +104,9 @@ module _ (s : List ℕ) (n i : ℕ) (S : Reading s n i) (b : ℕ) (z : b ≡ byt
         let v : leadingNumber s ≤ 2 ^ 64 - 1 = omega (arith, number-is, S .small) in
         rw (le-leb _ _ p, le-leb _ _ q, eq-eqb _ _ f, le-leb _ _ v, number-is, last-is)
 
--- ---- the rest of the input begins inside it
-and-first : (a b : Bool) → a && b ≡ true → a ≡ true
-and-first true b e = refl
-and-first false b e = e
+-- ---- what follows a place
+pub after-over : (s : List ℕ) (at : ℕ) → length s ≤ at → take (length s - length s) (drop (length s) s) ≡ drop at s
+after-over s at h = rw (drop-length s, drop-of-length-le s h, take-nil (length s - length s))
 
-and-second : (a b : Bool) → a && b ≡ true → b ≡ true
-and-second true b e = e
-and-second false b e = absurd (false≢true e)
-
-feed-inside : (s : List ℕ) → isFirstLine s ≡ true → digitCount s < length s
-unfolding isFirstLine
-feed-inside s e =
-    let f = and-second (within 1 20 (digitCount s)) (eqb (byte s (digitCount s)) 0x0A)
-    (and-first (within 1 20 (digitCount s) && eqb (byte s (digitCount s)) 0x0A) (leb (leadingNumber s) (2 ^ 64 - 1)) e) in
-    inside s (digitCount s) 0x0A (sym (eqb-true _ _ f)) (omega arith)
-
-pub line-inside : (s : List ℕ) (d at : ℕ) → firstLine s ≡ accepted (line d at) → at ≤ length s
-unfolding firstLine
-line-inside s d at e =
-    cond-elim (λ (r : Answer Line). r ≡ accepted (line d at) → at ≤ length s) (isFirstLine s) _ _
-    (λ b h. let z : line (leadingNumber s) (digitCount s + 1) ≡ line d at = cc in omega (arith, feed-inside s b, ap (λ (l : Line). l .rest) z)) (λ _ h. let z : _≡_ {A = ℕ} 0 1 = cc in absurd (omega arith)) e
+pub after-in : (s : List ℕ) (at : ℕ) → take (length s - at) (drop at s) ≡ drop at s
+after-in s at = take-all (length s - at) (drop at s) (omega (arith, length-drop at s))

@@ -1,5 +1,6 @@
-// The first line of the program's input.
+// The first line of a program's input, and what follows it.
 ghost use mathlib.Core.Path.{_≡_};
+ghost use lib.ListN.{drop};
 ghost use Rattle.first_line.specs.FirstLine.{firstLine, lineSays};
 
 // The dataset's length and the place past the line feed, or that the line has another form.
@@ -10,6 +11,9 @@ pub enum FirstLine {
 
 // The most digits of the line.
 const DIGITS: usize = 20;
+
+// The bytes of the longest line.
+pub const LONGEST: usize = DIGITS + 1;
 
 // The first line of an input: digits and a line feed.
 pub fn first_line(input: &[u8]) -> FirstLine
@@ -39,4 +43,15 @@ pub fn first_line(input: &[u8]) -> FirstLine
             return FirstLine::Other;
         }
     }
+}
+
+// What follows a place of the input; past its end nothing.
+pub fn after(input: &[u8], at: usize) -> &[u8]
+    ensures { λ r. ⌜ now r ≡ drop at (now (input .entry)) ⌝ }
+{
+    let n = input.len();
+    if at >= n {
+        return &input[n..];
+    }
+    &input[at..]
 }

@@ -12,7 +12,8 @@ use Rattle.json_blocks.specs.TextBytes.{byte}
 use Rattle.json_strings.specs.Decode.{decodedFrom}
 use Rattle.table.specs.declared.Annotation.{Annotation}
 use Rattle.table.specs.declared.Summary.{Summary}
-use Rattle.table.specs.Rows.{captureAt, annotationAt, rowsFrom, rest, flat, captures, annotations, table}
+use Rattle.table.specs.Rows.{captureAt, annotationAt, rest, flat, captures, annotations, table}
+use Rattle.table.proofs.RowLaws.{rest-length}
 use Rattle.decimal.proofs.Digits.{digits-back}
 use Rattle.table.specs.Place.{absent}
 use Rattle.listing_labels.specs.Text.{part}
@@ -23,14 +24,6 @@ use Rattle.listing_lines.specs.Split.{splitLines}
 use Rattle.listing_lines.specs.Recover.{shownIn, startIn, endIn, labelIn, labelText}
 use Rattle.listing_lines.proofs.LineLaws.{recording-line, capture-line, annotation-line, split-rows}
 use Rattle.listing_lines.proofs.RecoverLaws.{past-number, up-to-number, numbers-left, shown-in, text-back}
-
-rows-count : {A : Type 0} (at : ℕ → A) (k i : ℕ) → length (rowsFrom at k i) ≡ k
-unfolding rowsFrom
-rows-count at zero i = refl
-rows-count at (suc k) i = ap suc (rows-count at k (suc i))
-
-all-count : {A : Type 0} (at : ℕ → A) (n : ℕ) → length (rest at n 0) ≡ n
-all-count at n = rows-count at (n - 0) 0 ∙ omega arith
 
 module _ (t : Summary) (caps notes s : List ℕ) where
   -- "the listing has one line for the recording, each capture and each annotation, whatever a label contains": these lines, in this order
@@ -45,12 +38,12 @@ module _ (t : Summary) (caps notes s : List ℕ) where
       ∙ ap (λ (x : List (List ℕ)). recordingLine t ∷ x) (split-rows captureLine capture-line (captures caps (t .captures)) n ∙ ap (λ (x : List (List ℕ)). map captureLine (captures caps (t .captures)) ++ x) e)
 
   pub captures-count : length (recordingLine t ∷ map captureLine (captures caps (t .captures))) ≡ 1 + t .captures
-  captures-count = ap suc (length-map (captures caps (t .captures)) captureLine ∙ all-count (captureAt caps) (t .captures)) ∙ omega arith
+  captures-count = ap suc (length-map (captures caps (t .captures)) captureLine ∙ rest-length (captureAt caps) (t .captures)) ∙ omega arith
 
   -- as many lines as "the recording, each capture and each annotation"
   pub line-count : length (splitLines (listingOf (table t caps notes) s)) ≡ 1 + t .captures + t .annotations
   line-count = ap length one-line-each ∙ length-append (recordingLine t ∷ map captureLine (captures caps (t .captures))) (map (annotationLine s) (annotations notes (t .annotations)))
-      ∙ rw (captures-count, length-map (annotations notes (t .annotations)) (annotationLine s) ∙ all-count (annotationAt notes) (t .annotations))
+      ∙ rw (captures-count, length-map (annotations notes (t .annotations)) (annotationLine s) ∙ rest-length (annotationAt notes) (t .annotations))
 
 label-is : (s : List ℕ) (r : Annotation) → labelIn (annotationLine s r) ≡ shownIn (shownText s (r .texts .label) ++ feed)
 label-is s r = rw (numbers-left s r, past-number (r .start) _, past-number (r .end) _)

@@ -8,7 +8,6 @@ use lib.ListN.{length, getD, set}
 use lib.Seq.{sets-eq}
 use borrow.Author.Tests.{le-leb, lt-leb, eq-eqb, ne-eqb}
 use Rattle.table.specs.Memory.{putRow}
-use Rattle.table.specs.Rows.{rowsFrom, rest}
 use Rattle.table.proofs.RowLaws.{row-number, row-none}
 use Rattle.table.specs.declared.Count.{Count}
 use Rattle.table.specs.declared.Count.the-variants as C
@@ -67,12 +66,3 @@ module _ (m : List ℕ) (i : ℕ) where
       let e3 : noteWidth * i + 3 ≡ suc (suc (suc (noteWidth * i))) = omega arith in
       let e4 : noteWidth * i + 4 ≡ suc (suc (suc (suc (noteWidth * i)))) = omega arith in
       rw (p, q, e1, e2, e3, e4, le-leb _ _ g) (sets-eq (a ∷ b ∷ c ∷ d ∷ e ∷ []) m (noteWidth * i) g)
-
--- n entries are read
-rows-length : {A : Type 0} (at : ℕ → A) (k i : ℕ) → length (rowsFrom at k i) ≡ k
-unfolding rowsFrom
-rows-length at zero i = refl
-rows-length at (suc k) i = ap suc (rows-length at k (suc i))
-
-pub rest-length : {A : Type 0} (at : ℕ → A) (n : ℕ) → length (rest at n 0) ≡ n
-rest-length at n = rows-length at (n - 0) 0 ∙ omega arith

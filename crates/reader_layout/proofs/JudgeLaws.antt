@@ -23,9 +23,9 @@ use Rattle.table.specs.declared.Globals.{Globals}
 use Rattle.reader_layout.specs.declared.Whole.{Whole}
 use Rattle.reader_layout.specs.Layout.{Contents, widthIn, headersAndTrailer, samplesIn, endIndex, unordered, notWhole, indexOutside, summaryIn, formatRules, sampleRules, layoutRules, tooMany, judgedLayout, layoutRefusal, layoutAnswer, capturesAfter, annotationsAfter}
 use Rattle.table.specs.Samples.{captureRows, annotationRow, ascending, allEntries, allNotes, headerSum}
+use Rattle.table.proofs.RowLaws.{rest-length}
 use Rattle.reader_layout.specs.Entries.{entryAt, noteAt, captureEntries, storedContents}
 use Rattle.reader_layout.specs.Stages.{captureStarts, noteStarts, wholeIn, insideOk, acceptedSummary}
-use Rattle.reader_layout.proofs.EntryLaws.{rest-length}
 
 -- ---- 1, 9 and 10
 pub record Format (g : Globals) (d : ℕ) : Type 0 where

@@ -14,14 +14,13 @@ use Rattle.table.specs.declared.Capture.{Capture}
 use Rattle.table.specs.Memory.{written, putRow}
 use Rattle.table.specs.Rows.{captureWidth, annotationWidth, captureNumbers, annotationNumbers, rest, flat}
 use Rattle.table.proofs.Bools.{and-left, and-right}
-use Rattle.table.proofs.RowLaws.{rest-at, rest-none, length-flat}
+use Rattle.table.proofs.RowLaws.{rest-at, rest-none, rest-length, length-flat}
 use Rattle.table.proofs.Filling.{Filling, fill-none, fill-row, fill-all}
 use Rattle.table.specs.declared.CaptureEntry.{CaptureEntry}
 use Rattle.table.specs.declared.AnnotationEntry.{AnnotationEntry}
 use Rattle.table.specs.declared.Count.the-variants as C
 use Rattle.table.specs.Samples.{nextStart, captureRows, noteEnd, annotationRow, noteOk, allEntries, allNotes, headerSum}
 use Rattle.reader_layout.specs.Entries.{entryAt, noteAt, captureEntries}
-use Rattle.reader_layout.proofs.EntryLaws.{rest-length}
 use Rattle.reader_layout.proofs.StageLaws.{headers-at}
 
 -- ---- where a row ends

@@ -1,4 +1,5 @@
--- The lowest of rules in the order of their numbers is the smallest number whose condition holds.
+-- The lowest of rules in the order of their numbers is the smallest number whose condition holds, and of rules in any order the number of
+-- the first whose condition holds.
 use Prim.Native.Nat.{ℕ, _≤_, _<_}
 use mathlib.Core.Path.{_≡_, refl, sym, _∙_}
 use mathlib.Core.Logic.{inl, inr, ⊎-elim}
@@ -6,20 +7,23 @@ use mathlib.Core.Bool.{Bool, true, false, cond, not, _&&_, false≢true}
 use mathlib.Core.List.{List, [], _∷_, _++_}
 use native.Mathlib.Omega.{arith}
 use lib.Dec.{eqb, ltb}
-use borrow.Author.Tests.{ltb-true, ne-eqb, eqb-true, eqb-false}
-use Rattle.refusals.specs.Refusals.{Rule, rule, lowest, noneHolds, Holds, Smallest, ByRules}
+use borrow.Author.Tests.{lt-ltb, ltb-true, ne-eqb, eqb-true, eqb-false}
+use Rattle.refusals.specs.Refusals.{Rule, rule, lowest, noneHolds, Holds, Smallest, ByRules, First, ByOrder}
 
 -- the numbers are above n and rise
 unfoldable pub rising : ℕ → List Rule → Bool
 rising n [] = true
 rising n (r ∷ rs) = ltb n (r .number) && rising (r .number) rs
 
+both-hold : (n k : ℕ) (b : Bool) → ltb n k && b ≡ true → (n < k) × (b ≡ true)
+both-hold n k b e = go (ltb n k) refl e where
+  go : (c : Bool) → ltb n k ≡ c → c && b ≡ true → (n < k) × (b ≡ true)
+  go true q f = (ltb-true n k q, f)
+  go false q f = absurd (false≢true f)
+
 rises : (n : ℕ) (r : Rule) (rs : List Rule) → rising n (r ∷ rs) ≡ true → (n < r .number) × (rising (r .number) rs ≡ true)
 unfolding rising
-rises n r rs e = go (ltb n (r .number)) refl e where
-  go : (b : Bool) → ltb n (r .number) ≡ b → b && rising (r .number) rs ≡ true → (n < r .number) × (rising (r .number) rs ≡ true)
-  go true q f = (ltb-true n (r .number) q, f)
-  go false q f = absurd (false≢true f)
+rises n r rs e = both-hold n (r .number) (rising (r .number) rs) e
 
 above : (n : ℕ) (rs : List Rule) → rising n rs ≡ true → (m : ℕ) → Holds m rs → n < m
 unfolding Holds
@@ -28,15 +32,30 @@ above n (r ∷ rs) e m h =
     let p = rises n r rs e in
     ⊎-elim (λ q. omega (arith, p .0, q .0)) (λ q. omega (arith, p .0, above (r .number) rs (p .1) m q)) h
 
+-- no rule has the number 0, which is acceptance
+unfoldable pub numbered : List Rule → Bool
+numbered [] = true
+numbered (r ∷ rs) = ltb 0 (r .number) && numbered rs
+
+has-number : (r : Rule) (rs : List Rule) → numbered (r ∷ rs) ≡ true → (0 < r .number) × (numbered rs ≡ true)
+unfolding numbered
+has-number r rs e = both-hold 0 (r .number) (numbered rs) e
+
+rising-numbered : (n : ℕ) (rs : List Rule) → rising n rs ≡ true → numbered rs ≡ true
+unfolding numbered
+rising-numbered n [] e = refl
+rising-numbered n (r ∷ rs) e =
+    let p = rises n r rs e in
+    rw (lt-ltb 0 (r .number) (omega (arith, p .0)), rising-numbered (r .number) rs (p .1)) refl
+
 -- acceptance
-accepts-none : (n : ℕ) (rs : List Rule) → rising n rs ≡ true → eqb (lowest rs) 0 ≡ noneHolds rs
+accepts-none : (rs : List Rule) → numbered rs ≡ true → eqb (lowest rs) 0 ≡ noneHolds rs
 unfolding lowest noneHolds
-accepts-none n [] e = refl
-accepts-none n (r ∷ rs) e = go (r .holds) (accepts-none (r .number) rs (rises n r rs e .1))
-  where
-    go : (b : Bool) → eqb (lowest rs) 0 ≡ noneHolds rs → eqb (cond b (r .number) (lowest rs)) 0 ≡ not b && noneHolds rs
-    go true h = ne-eqb (r .number) 0 (λ z. omega (arith, z, rises n r rs e .0))
-    go false h = h
+accepts-none [] e = refl
+accepts-none (r ∷ rs) e = let p = has-number r rs e in go (r .holds) (p .0) (accepts-none rs (p .1)) where
+  go : (b : Bool) → 0 < r .number → eqb (lowest rs) 0 ≡ noneHolds rs → eqb (cond b (r .number) (lowest rs)) 0 ≡ not b && noneHolds rs
+  go true l h = ne-eqb (r .number) 0 (λ z. omega (arith, z, l))
+  go false l h = h
 
 -- a refusal
 smallest : (n : ℕ) (rs : List Rule) → rising n rs ≡ true → (lowest rs ≡ 0 → ⊥) → Smallest (lowest rs) rs
@@ -55,7 +74,19 @@ smallest n (r ∷ rs) e h = go (r .holds) refl h (smallest (r .number) rs (rises
     }
 
 pub lowest-by : (n : ℕ) (rs : List Rule) → rising n rs ≡ true → ByRules (lowest rs) rs
-lowest-by n rs e = record { exactly = accepts-none n rs e; smallest = smallest n rs e }
+lowest-by n rs e = record { exactly = accepts-none rs (rising-numbered n rs e); smallest = smallest n rs e }
+
+first : (rs : List Rule) → (lowest rs ≡ 0 → ⊥) → First (lowest rs) rs
+unfolding lowest First
+first [] h = absurd (h refl)
+first (r ∷ rs) h = go (r .holds) refl h (first rs) where
+  go : (b : Bool) → r .holds ≡ b → (cond b (r .number) (lowest rs) ≡ 0 → ⊥) → ((lowest rs ≡ 0 → ⊥) → First (lowest rs) rs)
+      → First (cond b (r .number) (lowest rs)) (r ∷ rs)
+  go true q k f = inl (q, refl)
+  go false q k f = inr (q, f k)
+
+pub lowest-order : (rs : List Rule) → numbered rs ≡ true → ByOrder (lowest rs) rs
+lowest-order rs e = record { exactly = accepts-none rs e; first = first rs }
 
 -- ---- lists of rules that agree as far as those before them do not hold
 pub data Agree : List Rule → List Rule → Type 0 where

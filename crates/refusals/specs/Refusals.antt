@@ -1,7 +1,7 @@
 -- Document 01, "Refusal numbers": "The answer is the smallest number whose condition holds"; "0 is acceptance".
 use mathlib.Core.Path.{_≡_}
 use mathlib.Core.Logic.{_⊎_}
-use mathlib.Core.Bool.{Bool, true, cond, not, _&&_}
+use mathlib.Core.Bool.{Bool, true, false, cond, not, _&&_}
 use mathlib.Core.List.{List, [], _∷_}
 use Prim.Native.Nat.{ℕ, _≤_}
 use lib.Dec.{eqb, leb}
@@ -43,3 +43,14 @@ pub record Smallest (n : ℕ) (rs : List Rule) : Type 0 where
 pub record ByRules (n : ℕ) (rs : List Rule) : Type 0 where
   pub exactly : eqb n 0 ≡ noneHolds rs
   pub smallest : (n ≡ 0 → ⊥) → Smallest n rs
+
+-- ---- where a request fixes another order: rules in the order in which they are judged
+-- the first condition that holds has the number n
+unfoldable pub First : ℕ → List Rule → Type 0
+First n [] = ⊥
+First n (r ∷ rs) = ((r .holds ≡ true) × (r .number ≡ n)) ⊎ ((r .holds ≡ false) × First n rs)
+
+-- accepted exactly when no condition holds, else refused with the number of the first whose condition holds
+pub record ByOrder (n : ℕ) (rs : List Rule) : Type 0 where
+  pub exactly : eqb n 0 ≡ noneHolds rs
+  pub first : (n ≡ 0 → ⊥) → First n rs

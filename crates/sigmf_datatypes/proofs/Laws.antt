@@ -38,10 +38,15 @@ pub counted : count ≡ length datatypes
 unfolding datatypes twelve
 counted = refl
 
+-- a listed code is below the list's length
+pub listed-below : (c : ℕ) → isListed c ≡ true → c < length datatypes
+unfolding isListed
+listed-below c e = ltb-true c (length datatypes) e
+
 -- a sample of one channel has at least one byte, and at most two components of eight
 pub unit-least : (c : ℕ) → isListed c ≡ true → 1 ≤ channelBytes (datatypeOf c)
-unfolding isListed datatypeOf datatypes twelve all
-unit-least c e = leb-true 1 (channelBytes (datatypeOf c)) (all-at (λ (d : Datatype). leb 1 (channelBytes d)) datatypes c _ refl (ltb-true c (length datatypes) e))
+unfolding datatypeOf datatypes twelve all
+unit-least c e = leb-true 1 (channelBytes (datatypeOf c)) (all-at (λ (d : Datatype). leb 1 (channelBytes d)) datatypes c _ refl (listed-below c e))
 
 pub unit-most : (c : ℕ) → channelBytes (datatypeOf c) ≤ 16
 unfolding datatypes twelve all

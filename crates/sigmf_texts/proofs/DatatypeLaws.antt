@@ -2,22 +2,19 @@
 use mathlib.Core.Path.{_≡_, sym, _∙_}
 use mathlib.Core.Bool.{Bool, true, false}
 use mathlib.Core.List.{List}
-use Prim.Native.Nat.{ℕ, _≤_, _<_, _+_, _-_}
+use Prim.Native.Nat.{ℕ, _≤_, _+_, _-_}
 use native.Mathlib.Omega.{arith}
 use lib.ListN.{length, take, drop, replicate, length-append}
 use lib.Seq.{take-append-seam}
-use borrow.Author.Tests.{ltb-true, ltb-false}
+use borrow.Author.Tests.{ltb-false}
 use Rattle.json_names.specs.Same.{same}
 use Rattle.sigmf_datatypes.specs.Datatypes.{Datatype, datatypes, isListed, datatypeOf, datatypeName, zeroFilled}
+use Rattle.sigmf_datatypes.proofs.Laws.{listed-below}
 use Rattle.sigmf_texts.specs.Lookup.{indexIn}
 use Rattle.sigmf_texts.proofs.LookupLaws.{index-here, index-later, index-over}
 
 abbrev pub named : Datatype → List ℕ
 named r = r .name
-
-pub listed-below : (i : ℕ) → isListed i ≡ true → i < length datatypes
-unfolding isListed
-listed-below i l = ltb-true i (length datatypes) l
 
 module _ (i k : ℕ) (w : List ℕ) (ew : w ≡ zeroFilled (datatypeName i)) (ek : k ≡ length (datatypeName i)) where
   pub name-inside : k ≤ length w

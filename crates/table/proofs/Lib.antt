@@ -5,3 +5,4 @@ pub mod TableLaws
 pub mod LocateLaws
 pub mod Filling
 pub mod SummaryLaws
+pub mod ByteLaws

@@ -35,6 +35,15 @@ module _ {A : Type 0} (at : ℕ → A) (n i : ℕ) where
       let e : n - i ≡ 0 = omega arith in
       rw e
 
+-- how many there are
+rows-length : {A : Type 0} (at : ℕ → A) (k i : ℕ) → length (rowsFrom at k i) ≡ k
+unfolding rowsFrom
+rows-length at zero i = refl
+rows-length at (suc k) i = ap suc (rows-length at k (suc i))
+
+pub rest-length : {A : Type 0} (at : ℕ → A) (n : ℕ) → length (rest at n 0) ≡ n
+rest-length at n = rows-length at (n - 0) 0 ∙ omega arith
+
 -- ---- a row, number by number
 pub row-number : (w : ℕ) (m : List ℕ) (i k : ℕ) → w * i + w ≤ length m → k < w → getD (row w m i) k 0 ≡ getD m (w * i + k) 0
 unfolding row

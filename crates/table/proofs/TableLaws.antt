@@ -139,17 +139,49 @@ summed-no s good cap S e f g = go (leb S cap) refl
 abbrev laidOut : Summary → List Capture → Bool
 laidOut t rs = capturesOk (t .offset) (t .offset + t .samples) (t .width) (t .offset) 0 rs
 
-module _ (t : Summary) (w1 : 1 ≤ t .width) (h : t .samples ≤ t .size / t .width) where
-  pub lay-part : t .samples * t .width ≤ t .size
-  lay-part = le-div-iff-mul-le w1 .0 h
+-- samples and trailer
+module _ (t : Summary) (w1 : 1 ≤ t .width) where
+  pub fixed-many : t .size / t .width < t .samples → record { ok = false; total = 0 } ≡ summed true (t .size) (t .trailing + t .samples * t .width)
+  fixed-many h =
+      let k = div-lt-iff-lt-mul w1 .0 h in
+      let g : t .size < t .trailing + t .samples * t .width = omega arith in
+      rw (lt-leb _ _ g)
 
-  pub lay-fits : t .size ≤ dataset → Fits w64 (t .samples * t .width)
-  lay-fits g = omega (arith, lay-part)
+  module _ (h : t .samples ≤ t .size / t .width) where
+    pub fixed-part : t .samples * t .width ≤ t .size
+    fixed-part = le-div-iff-mul-le w1 .0 h
 
-  pub lay-below : t .size ≤ dataset → (t .offset + t .samples - t .offset) * t .width + (t .size - t .samples * t .width - t .trailing) < 2 ^ 63
+    pub fixed-mul : t .size ≤ dataset → Fits w64 (t .samples * t .width)
+    fixed-mul g = omega (arith, fixed-part)
+
+    pub fixed-over : t .size - t .samples * t .width < t .trailing → record { ok = false; total = 0 } ≡ summed true (t .size) (t .trailing + t .samples * t .width)
+    fixed-over g =
+        let k : t .size < t .trailing + t .samples * t .width = omega (arith, fixed-part) in
+        rw (lt-leb _ _ k)
+
+    module _ (g : t .trailing ≤ t .size - t .samples * t .width) where
+      within : t .trailing + t .samples * t .width ≤ t .size
+      within = omega (arith, fixed-part)
+
+      pub fixed-add : t .size ≤ dataset → Fits w64 (t .trailing + t .samples * t .width)
+      fixed-add k = omega (arith, within)
+
+      pub fixed-is : record { ok = true; total = t .trailing + t .samples * t .width } ≡ summed true (t .size) (t .trailing + t .samples * t .width)
+      fixed-is = rw (le-leb _ _ within)
+
+module _ (t : Summary) (f : Sum) (z : f ≡ summed true (t .size) (t .trailing + t .samples * t .width)) (y : f .ok ≡ true) where
+  parts : (f .total ≡ t .trailing + t .samples * t .width) × (f .total ≤ t .size)
+  parts =
+      let k = summed-yes f true (t .size) (t .trailing + t .samples * t .width) z y in
+      (k .1, omega (arith, k .1, k .2))
+
+  pub lay-within : f .total ≤ t .size
+  lay-within = parts .1
+
+  pub lay-below : t .size ≤ dataset → (t .offset + t .samples - t .offset) * t .width + (t .size - f .total) < 2 ^ 63
   lay-below g =
-      let z : t .offset + t .samples - t .offset ≡ t .samples = omega arith in
-      rw z (omega (arith, lay-part))
+      let n : t .offset + t .samples - t .offset ≡ t .samples = omega arith in
+      rw n (omega (arith, parts))
 
 module _ (t : Summary) (rs : List Capture) where
   layout-facts : layoutOk t rs ≡ true → (laidOut t rs ≡ true) × (t .trailing + headerSum (ownEntries rs) + t .samples * t .width ≡ t .size)
@@ -163,33 +195,24 @@ module _ (t : Summary) (rs : List Capture) where
   layout-false : (t .trailing + headerSum (ownEntries rs) + t .samples * t .width ≡ t .size → ⊥) → false ≡ layoutOk t rs
   layout-false f = same-test false (layoutOk t rs) (λ z. absurd (false≢true z)) (λ z y. f (layout-facts y .1))
 
-  module _ (w1 : 1 ≤ t .width) where
-    pub lay-many : t .size / t .width < t .samples → false ≡ layoutOk t rs
-    lay-many h =
-        let k : t .size < t .samples * t .width = div-lt-iff-lt-mul w1 .0 h in
-        layout-false (λ z. omega arith)
+  module _ (f : Sum) (z : f ≡ summed true (t .size) (t .trailing + t .samples * t .width)) where
+    pub lay-over : f .ok ≡ false → false ≡ layoutOk t rs
+    lay-over y = layout-false (λ x. omega (arith, x, summed-no f true (t .size) (t .trailing + t .samples * t .width) z y refl))
 
-    module _ (h : t .samples ≤ t .size / t .width) where
-      pub lay-tail : t .size - t .samples * t .width < t .trailing → false ≡ layoutOk t rs
-      lay-tail g =
-          let k = lay-part t w1 h in
-          layout-false (λ z. omega arith)
-
-      module _ (g : t .trailing ≤ t .size - t .samples * t .width) (s : Sum)
-          (e : s ≡ summed (laidOut t rs) (t .size - t .samples * t .width - t .trailing) (headerSum (ownEntries rs))) where
+    module _ (y : f .ok ≡ true) where
+      module _ (s : Sum) (e : s ≡ summed (laidOut t rs) (t .size - f .total) (headerSum (ownEntries rs))) where
         pub lay-bad : s .ok ≡ false → false ≡ layoutOk t rs
-        lay-bad f = same-test false (layoutOk t rs) (λ z. absurd (false≢true z)) (λ z y. over (layout-facts y))
+        lay-bad v = same-test false (layoutOk t rs) (λ x. absurd (false≢true x)) (λ x q. over (layout-facts q))
           where
             over : (laidOut t rs ≡ true) × (t .trailing + headerSum (ownEntries rs) + t .samples * t .width ≡ t .size) → ⊥
-            over y = let k = summed-no s (laidOut t rs) _ (headerSum (ownEntries rs)) e f (y .0) in omega (arith, y .1)
+            over q = let k = summed-no s (laidOut t rs) _ (headerSum (ownEntries rs)) e v (q .0) in omega (arith, q .1, parts t f z y)
 
-        pub lay-good : s .ok ≡ true → eqb (s .total) (t .size - t .samples * t .width - t .trailing) ≡ layoutOk t rs
-        lay-good f =
-            let k = summed-yes s (laidOut t rs) _ (headerSum (ownEntries rs)) e f in
-            let p = lay-part t w1 h in
-            same-test (eqb (s .total) (t .size - t .samples * t .width - t .trailing)) (layoutOk t rs)
-            (λ z. layout-true (k .0) (omega (arith, eqb-true (s .total) (t .size - t .samples * t .width - t .trailing) z, k .1, p)))
-            (λ z y. false≢true (sym z ∙ eq-eqb (s .total) (t .size - t .samples * t .width - t .trailing) (omega (arith, layout-facts y .1, k .1, p))))
+        pub lay-good : s .ok ≡ true → eqb (s .total) (t .size - f .total) ≡ layoutOk t rs
+        lay-good v =
+            let k = summed-yes s (laidOut t rs) _ (headerSum (ownEntries rs)) e v in
+            same-test (eqb (s .total) (t .size - f .total)) (layoutOk t rs)
+            (λ x. layout-true (k .0) (omega (arith, eqb-true (s .total) (t .size - f .total) x, k .1, parts t f z y)))
+            (λ x q. false≢true (sym x ∙ eq-eqb (s .total) (t .size - f .total) (omega (arith, layout-facts q .1, k .1, parts t f z y))))
 
 -- ---- text places
 pub text-far : (p : Place) → metadata < p .at → false ≡ endsWithin p
@@ -242,13 +265,13 @@ unfolding annotationsOk
 note-done l n i e s B g b = rw (rest-none (annotationAt l) n i g) at b
 
 -- ---- the format
-record Format (t : Summary) : Type 0 where
-  code : isListed (t .datatype) ≡ true
-  some : 1 ≤ t .channels
-  few : t .channels ≤ channels
-  wide : t .width ≡ widthOf (t .datatype) (t .channels)
+pub record Format (t : Summary) : Type 0 where
+  pub code : isListed (t .datatype) ≡ true
+  pub some : 1 ≤ t .channels
+  pub few : t .channels ≤ channels
+  pub wide : t .width ≡ widthOf (t .datatype) (t .channels)
 
-format-facts : (t : Summary) → formatOk t ≡ true → Format t
+pub format-facts : (t : Summary) → formatOk t ≡ true → Format t
 unfolding formatOk
 format-facts t e =
     let k = leb 1 (t .channels) && leb (t .channels) channels in

@@ -1,4 +1,6 @@
 // A table of a recording: its summary, its rows in lent flat memory, whether it is well formed, and the place of a sample.
+pub mod bytes;
+
 ghost use mathlib.Core.Path.{_≡_};
 ghost use mathlib.Core.Bool.{true, false};
 ghost use mathlib.Core.List.{[]};
@@ -120,9 +122,9 @@ pub struct Located {
 }
 
 // A sum that stayed within its cap, or none.
-struct Sum {
-    ok: bool,
-    total: u64,
+pub(crate) struct Sum {
+    pub(crate) ok: bool,
+    pub(crate) total: u64,
 }
 
 // A refusal: its number and zeros.
@@ -229,7 +231,7 @@ fn next_start(caps: &[u64], n: usize, i: usize, e: u64) -> u64
 }
 
 // One capture in order, that ends at next and has its first byte past h header bytes.
-fn capture_ok(x: Capture, o: u64, e: u64, w: u64, s: u64, h: u64, next: u64) -> bool
+pub(crate) fn capture_ok(x: Capture, o: u64, e: u64, w: u64, s: u64, h: u64, next: u64) -> bool
     requires { ⌜ (o ≤ s) × ((e - o) * w + h < 2 ^ 63) ⌝ }
     ensures { λ r. ⌜ r ≡ captureOk o e w s h next x ⌝ }
 {
@@ -277,27 +279,46 @@ fn header_sum(caps: &[u64], n: usize, o: u64, e: u64, w: u64, cap: u64) -> Sum
     Sum { ok: true, total: h }
 }
 
+// The bytes of samples and trailer, if they fit the dataset.
+pub(crate) fn fixed_bytes(t: Summary) -> Sum
+    requires { ⌜ (1 ≤ t .width) × (t .size ≤ dataset) ⌝ }
+    ensures { λ r. ⌜ r ≡ summed true (t .size) (t .trailing + t .samples * t .width) ⌝ }
+{
+    let n = t.samples;
+    let w = t.width;
+    let d = t.size;
+    if n > d / w {
+        return Sum {
+            ok: false,
+            total: 0,
+        };
+    }
+    let data = n * w;
+    if t.trailing > d - data {
+        return Sum {
+            ok: false,
+            total: 0,
+        };
+    }
+    Sum {
+        ok: true,
+        total: t.trailing + data,
+    }
+}
+
 // The captures' rows are in order, and the parts of the dataset make its size.
 fn layout_ok(t: Summary, caps: &[u64]) -> bool
     requires { ⌜ (1 ≤ t .width) × (t .size ≤ dataset) × (t .offset + t .samples < 2 ^ 64) ⌝ }
     ensures { λ r. ⌜ r ≡ layoutOk t (captures (now (caps .entry)) (t .captures)) ⌝ }
 {
-    let o = t.offset;
-    let w = t.width;
-    let n = t.samples;
-    let d = t.size;
-    let tr = t.trailing;
-    if n > d / w {
-        return false;
-    }
-    let left = d - n * w;
-    if tr > left {
-        return false;
-    }
-    let cap = left - tr;
-    let s = header_sum(caps, t.captures as usize, o, o + n, w, cap);
-    if s.ok {
-        return s.total == cap;
+    let f = fixed_bytes(t);
+    if f.ok {
+        let o = t.offset;
+        let cap = t.size - f.total;
+        let s = header_sum(caps, t.captures as usize, o, o + t.samples, t.width, cap);
+        if s.ok {
+            return s.total == cap;
+        }
     }
     false
 }
@@ -321,7 +342,7 @@ fn texts_ok(x: Texts) -> bool
 }
 
 // One annotation in order, that ends at e at most, with places for its texts.
-fn annotation_ok(x: Annotation, e: u64, s: u64) -> bool
+pub(crate) fn annotation_ok(x: Annotation, e: u64, s: u64) -> bool
     ensures { λ r. ⌜ r ≡ annotationOk e s x ⌝ }
 {
     if x.start < s {
@@ -366,7 +387,7 @@ fn format_ok(t: Summary) -> bool
 }
 
 // The summary's own numbers.
-fn numbers_ok(t: Summary) -> bool
+pub(crate) fn numbers_ok(t: Summary) -> bool
     ensures { λ r. ⌜ r ≡ numbersOk t ⌝ }
 {
     if t.refusal != 0 {

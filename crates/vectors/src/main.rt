@@ -12,6 +12,7 @@ mod parts;
 mod print;
 mod reading_cases;
 mod steps_cases;
+mod storing_cases;
 mod sum;
 mod table_cases;
 mod writing_cases;
@@ -31,6 +32,7 @@ use crate::listing_cases::answer_first_line;
 use crate::parts::front_bytes;
 use crate::print::stop;
 use crate::reading_cases::run_reading;
+use crate::storing_cases::run_loading;
 use crate::table_cases::NUMBERS;
 use crate::table_cases::run_table;
 use limits::Limits;
@@ -87,8 +89,10 @@ fn answer(letter: u8, payload: &[u8]) -> bool {
         b'l' => run_table(letter, payload),
         b'p' => run_table(letter, payload),
         b'w' => run_table(letter, payload),
+        b'b' => run_table(letter, payload),
         b'q' => answer_first_line(payload),
         b'r' => run_reading(payload),
+        b'f' => run_loading(payload),
         _ => answer_field(letter, payload),
     }
 }

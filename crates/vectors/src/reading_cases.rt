@@ -15,7 +15,7 @@ use reader::read;
 use table::Summary;
 
 // The most numbers that are lent for rows of one kind.
-const NUMBERS: usize = 4096;
+pub(crate) const NUMBERS: usize = 4096;
 
 pub(crate) fn run_reading(payload: &[u8]) -> bool {
     let mut head = [0u64; 3];

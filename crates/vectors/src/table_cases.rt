@@ -7,6 +7,7 @@ use crate::operations::run_operation;
 use crate::parts::first;
 use crate::parts::past;
 use crate::steps_cases::run_steps;
+use crate::storing_cases::run_storing;
 use crate::writing_cases::run_writing;
 use table::Place;
 use table::Summary;
@@ -68,6 +69,9 @@ fn run_rows(
     }
     if letter == b'w' {
         return run_writing(payload, head, caps, notes);
+    }
+    if letter == b'b' {
+        return run_storing(head, caps, notes);
     }
     run_listing(letter, payload, head, caps, notes)
 }

@@ -6,6 +6,8 @@ mod export;
 mod export_listing;
 #[path = "../../../crates/export_names/export_names.rs"]
 mod export_names;
+#[path = "../../../crates/export_stored/export_stored.rs"]
+mod export_stored;
 #[path = "../../../crates/export_writer/export_writer.rs"]
 mod export_writer;
 
@@ -20,20 +22,22 @@ use second::listing_case::{ListingCase, LISTING};
 use second::rng::Rng;
 use second::steps::{State, Step};
 use second::steps_case::StepsCase;
+use second::storing_case::{LoadingCase, StoringCase};
 use second::table::{copy, cut, locate, pieces, Table, Written};
 use second::table_case::{summary_numbers, TableCase, COPY, CUT, LOCATE, PIECES};
 use second::words::{byte_memory, dataset_bytes, memory};
 use second::writer::{reads_back, write};
 use second::{field_random, json_answers, json_random, listing_random, reading_answers, reading_random};
-use second::{steps_answers, steps_random, table_random, writing_random};
+use second::{steps_answers, steps_random, storing_answers, storing_random, table_random, writing_random};
 use std::process::ExitCode;
 use std::time::{Duration, Instant};
 
 /// A kind of case: a fresh one is answered by both programs, and handed back where they disagree.
 type Compare = fn(&mut Rng) -> Result<(), Case>;
 
-const KINDS: [(&str, Compare); 7] = [
+const KINDS: [(&str, Compare); 8] = [
     ("json", json), ("reading", reading), ("tables", tables), ("listings", listings), ("writing", writing), ("steps", steps), ("names", names),
+    ("storing", storing),
 ];
 
 fn agree(same: bool, case: Case) -> Result<(), Case> {
@@ -193,6 +197,47 @@ fn names(rng: &mut Rng) -> Result<(), Case> {
     };
     let (number, compared) = look_up(place, &case.payload);
     agree(found == NameLookup { number, compared }, case)
+}
+
+/// A table stored or a file loaded by both, with the lent memory afterwards; what was stored loads back, and what was loaded stores back.
+fn storing(rng: &mut Rng) -> Result<(), Case> {
+    let frame = storing_random::random_case(rng);
+    let case = StoringCase::read(&frame).expect("a case that was just made");
+    let same = match &case {
+        StoringCase::Store(case) => same_stored(case),
+        StoringCase::Load(case) => same_loaded(case),
+    };
+    agree(same, frame)
+}
+
+fn same_stored(case: &ListingCase) -> bool {
+    let (expected, output) = storing_answers::stored(case);
+    let table = lent(&case.table());
+    let mut other = byte_memory(case.number);
+    let same = table.store(&mut other) == answer(expected) && other == output;
+    same && (expected.refusal != 0 || loads_back(&table, &other[..expected.count as usize]))
+}
+
+fn loads_back(table: &export::Table, file: &[u8]) -> bool {
+    let captures = &table.captures[..4 * table.summary.captures as usize];
+    let annotations = &table.annotations[..4 * table.summary.annotations as usize];
+    let (mut rows, mut notes) = (memory(captures.len() as u64), memory(annotations.len() as u64));
+    let summary = export_stored::load(file, &mut rows, &mut notes);
+    summary == table.summary && rows == captures && notes == annotations
+}
+
+fn same_loaded(case: &LoadingCase) -> bool {
+    let (expected, captures, annotations) = storing_answers::loaded(case);
+    let (mut rows, mut notes) = (memory(case.captures), memory(case.annotations));
+    let summary = export_stored::load(&case.file, &mut rows, &mut notes);
+    let same = summary == numbers(&expected) && rows == captures && notes == annotations;
+    same && (summary.refusal != 0 || stores_back(&export::Table { summary, captures: &rows, annotations: &notes }, &case.file))
+}
+
+fn stores_back(table: &export::Table, file: &[u8]) -> bool {
+    let mut back = byte_memory(file.len() as u64);
+    let stored = table.store(&mut back);
+    stored == Answer { refusal: 0, number: file.len() as u64 } && back == file
 }
 
 /// How many cases of each kind agreed.

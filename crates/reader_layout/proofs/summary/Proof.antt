@@ -1,5 +1,5 @@
 use Rattle.reader_layout.proofs.JudgeLaws.{judged-format, judged-15, judged-16, judged-17, judged-0, format-small, width-some}
-use Rattle.reader_layout.proofs.EntryLaws.{rest-length}
+use Rattle.table.proofs.RowLaws.{rest-length}
 use borrow.Author.Needs.{needs}
 use Rattle.reader_layout.proofs.summary.Statement.{statement}
 use Rattle.reader_layout.proofs.summary.Tie as tie

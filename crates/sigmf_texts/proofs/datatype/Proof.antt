@@ -5,10 +5,10 @@ use Prim.Native.Nat.{_-_, _+_}
 use mathlib.Core.Path.{_≡_, sym, _∙_}
 use lib.Seq.{length-take-le}
 use Rattle.sigmf_datatypes.specs.Datatypes.{datatypes}
-use Rattle.sigmf_datatypes.proofs.Laws.{counted}
+use Rattle.sigmf_datatypes.proofs.Laws.{counted, listed-below}
 use Rattle.sigmf_texts.specs.Lookup.{indexIn}
 use Rattle.sigmf_texts.specs.Texts.{valueText, codeOf}
-use Rattle.sigmf_texts.proofs.DatatypeLaws.{named, listed-below, name-inside, datatype-here, datatype-later, datatype-over}
+use Rattle.sigmf_texts.proofs.DatatypeLaws.{named, name-inside, datatype-here, datatype-later, datatype-over}
 use Rattle.sigmf_texts.proofs.datatype.Statement.{statement}
 use Rattle.sigmf_texts.proofs.datatype.Tie as tie
 

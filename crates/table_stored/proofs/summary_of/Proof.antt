@@ -1,0 +1,68 @@
+use native.Mathlib.Omega.{arith}
+use lib.ListN.{length, getD, drop}
+use Prim.Native.Nat.{ℕ, _≤_, _<_, _-_, _+_, _*_}
+use mathlib.Core.Path.{_≡_, refl, sym, ap, _∙_}
+use Rattle.table_stored.proofs.CodeLaws.{summary-is}
+use borrow.Author.Needs.{needs}
+use Rattle.table_stored.proofs.summary_of.Statement.{statement}
+use Rattle.table_stored.proofs.summary_of.Tie as tie
+use Rattle.table_stored.proofs.summary_of.Reads as reads
+use Rattle.table_stored.proofs.summary_of.Lts as lts
+use Rattle.little_endian.proofs.number_at.Reads as number-at-reads
+
+number-at-requires : tie.Need-number-at-requires
+number-at-requires c κs = search needs
+
+number-at-requires-2 : tie.Need-number-at-requires-2
+number-at-requires-2 c κs = search needs
+
+number-at-requires-3 : tie.Need-number-at-requires-3
+number-at-requires-3 c κs = search needs
+
+number-at-requires-4 : tie.Need-number-at-requires-4
+number-at-requires-4 c κs = search needs
+
+number-at-requires-5 : tie.Need-number-at-requires-5
+number-at-requires-5 c κs = search needs
+
+number-at-requires-6 : tie.Need-number-at-requires-6
+number-at-requires-6 c κs = search needs
+
+number-at-requires-7 : tie.Need-number-at-requires-7
+number-at-requires-7 c κs = search needs
+
+number-at-requires-8 : tie.Need-number-at-requires-8
+number-at-requires-8 c κs = search needs
+
+number-at-requires-9 : tie.Need-number-at-requires-9
+number-at-requires-9 c κs = search needs
+
+number-at-requires-10 : tie.Need-number-at-requires-10
+number-at-requires-10 c κs = search needs
+
+number-at-requires-11 : tie.Need-number-at-requires-11
+number-at-requires-11 c κs = search needs
+
+number-at-requires-12 : tie.Need-number-at-requires-12
+number-at-requires-12 c κs = search needs
+
+returns : tie.Need-returns
+returns c = search summary-is
+
+pub summary-of-spec : {M : Type 1} → statement M
+summary-of-spec =
+    tie.close
+    (tie.spec
+    number-at-requires
+    number-at-requires-2
+    number-at-requires-3
+    number-at-requires-4
+    number-at-requires-5
+    number-at-requires-6
+    number-at-requires-7
+    number-at-requires-8
+    number-at-requires-9
+    number-at-requires-10
+    number-at-requires-11
+    number-at-requires-12
+    returns)

@@ -1,0 +1,4 @@
+pub mod Form
+pub mod Store
+pub mod Load
+pub mod LoadParts
