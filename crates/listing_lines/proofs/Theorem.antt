@@ -1,6 +1,6 @@
 -- Demand 2, of the listing: "the listing has one line for the recording, each capture and each annotation, whatever a label contains, and
 -- each label's text can be recovered from its line".
-use Prim.Native.Nat.{ℕ, zero, suc, _+_, _-_, _<_}
+use Prim.Native.Nat.{ℕ, suc, _+_, _-_, _<_}
 use mathlib.Core.Path.{_≡_, refl, sym, ap, _∙_}
 use mathlib.Core.Bool.{true, false}
 use mathlib.Core.List.{List, [], _∷_, _++_, map, append-assoc, append-nil}
@@ -12,7 +12,7 @@ use Rattle.json_blocks.specs.TextBytes.{byte}
 use Rattle.json_strings.specs.Decode.{decodedFrom}
 use Rattle.table.specs.declared.Annotation.{Annotation}
 use Rattle.table.specs.declared.Summary.{Summary}
-use Rattle.table.specs.Rows.{captureAt, annotationAt, rest, flat, captures, annotations, table}
+use Rattle.table.specs.Rows.{captureAt, annotationAt, flat, captures, annotations, table}
 use Rattle.table.proofs.RowLaws.{rest-length}
 use Rattle.decimal.proofs.Digits.{digits-back}
 use Rattle.table.specs.Place.{absent}

@@ -1,11 +1,11 @@
 -- A number read byte by byte.
-use Prim.Native.Nat.{ℕ, zero, suc, _+_, _*_, _/_, _≤_, _<_}
-use mathlib.Core.Path.{_≡_, refl, sym, ap, _∙_}
-use mathlib.Core.List.{List, [], _∷_}
+use Prim.Native.Nat.{ℕ, suc, _+_, _*_, _/_, _≤_, _<_}
+use mathlib.Core.Path.{_≡_, sym, _∙_}
+use mathlib.Core.List.{List}
 use native.Mathlib.Omega.{arith}
 use lib.ListN.{length, getD, take, drop, List·getD-eq-default}
 use lib.Seq.{drop-cons}
-use Rattle.little_endian.specs.LittleEndian.{numberOf, numberWidth, numbersFrom, numbersOf}
+use Rattle.little_endian.specs.LittleEndian.{numberOf, numberWidth, numbersOf}
 use Rattle.little_endian.proofs.NumberLaws.{numbers-length, numbers-at}
 
 -- the bytes from place p + k on: the first of them, and the others

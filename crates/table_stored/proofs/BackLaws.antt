@@ -1,19 +1,18 @@
 -- A stored table loads as it was, and a loaded one is stored as it was.
 use Prim.Native.Nat.{ℕ, _+_, _-_, _*_, _^_, _≤_, _<_}
 use mathlib.Core.Path.{_≡_, refl, sym, ap, _∙_}
-use mathlib.Core.Bool.{true, _&&_}
+use mathlib.Core.Bool.{true}
 use mathlib.Core.List.{List, [], _∷_, _++_, append-assoc, append-nil}
 use native.Mathlib.Omega.{arith}
 use native.Mathlib.Nat.{mul-le-mul-right}
 use lib.ListN.{length, take, drop, length-append, length-drop, take-append-drop}
 use lib.Seq.{take-at, drop-at, take-add, take-all, length-take-le}
 use lib.Dec.{leb}
-use borrow.Author.Tests.{le-leb, eq-eqb, leb-true, eqb-true, ltb-true}
+use borrow.Author.Tests.{le-leb, eq-eqb, leb-true, eqb-true}
 use Rattle.limits.specs.Limits.{metadata, dataset, channels}
 use Rattle.json_names.specs.Same.{same}
 use Rattle.json_names.proofs.SameLaws.{same-is}
-use Rattle.sigmf_datatypes.specs.Datatypes.{isListed, widthOf}
-use Rattle.sigmf_datatypes.proofs.Laws.{count, counted, listed-below, width-most}
+use Rattle.sigmf_datatypes.proofs.Laws.{counted, listed-below, width-most}
 use Rattle.little_endian.specs.LittleEndian.{littleEndian, numberWidth, numbersOf}
 use Rattle.little_endian.proofs.NumberLaws.{Bytes, bytes-take, bytes-drop, numbers-length}
 use Rattle.table.specs.declared.Place.{Place}
@@ -24,9 +23,9 @@ use Rattle.table.specs.Rows.{captureWidth, captureNumbers, captureAt, annotatio
 use Rattle.table.specs.Place.{endsWithin}
 use Rattle.table.specs.Samples.{headerSum, nextStart}
 use Rattle.table.specs.Summary.{summaryWidth, summaryNumbers}
-use Rattle.table.specs.Table.{ownEntries, textsOk, formatOk, wellFormed}
+use Rattle.table.specs.Table.{ownEntries, textsOk, wellFormed}
 use Rattle.table.specs.Judge.{capturesOk, annotationsOk}
-use Rattle.table.proofs.Bools.{and-left, and-right}
+use Rattle.table.proofs.Bools.{and-right}
 use Rattle.table.proofs.ObeyLaws.{row-good, note-good}
 use Rattle.table.proofs.RowLaws.{rest-length, captures-back, annotations-back}
 use Rattle.table.proofs.TableLaws.{format-facts, Numbers, formed, well-formed}

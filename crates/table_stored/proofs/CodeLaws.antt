@@ -1,18 +1,18 @@
 -- Laws that the proofs of the code cite.
-use Prim.Native.Nat.{ℕ, zero, suc, _+_, _-_, _*_, _/_, _%_, _≤_, _<_}
+use Prim.Native.Nat.{ℕ, _+_, _-_, _*_, _/_, _%_, _≤_, _<_}
 use mathlib.Core.Path.{_≡_, refl, sym, ap, _∙_}
 use mathlib.Core.Bool.{Bool, true, false, _&&_, false≢true}
-use mathlib.Core.List.{List, [], _∷_, _++_}
+use mathlib.Core.List.{List, [], _∷_}
 use native.Mathlib.Omega.{arith}
-use lib.ListN.{length, getD, take, drop, set, length-take}
+use lib.ListN.{length, getD, take, set, length-take}
 use lib.Seq.{sets-eq, getD-take}
 use lib.Dec.{leb, eqb}
-use borrow.Author.Tests.{le-leb, lt-leb, eq-eqb, ne-eqb, eqb-true}
+use borrow.Author.Tests.{lt-leb, eq-eqb, ne-eqb, eqb-true}
 use Rattle.json_names.specs.Same.{same}
 use Rattle.json_names.proofs.SameLaws.{same-ne}
 use Rattle.little_endian.specs.LittleEndian.{littleEndian, numberWidth}
 use Rattle.table.specs.Memory.{written}
-use Rattle.table.specs.Rows.{rowsFrom, rest, flat}
+use Rattle.table.specs.Rows.{rowsFrom, rest}
 use Rattle.table.specs.Summary.{summaryOf}
 use Rattle.table.proofs.Bools.{leb-same, same-test}
 use Rattle.table.proofs.RowLaws.{rest-length}

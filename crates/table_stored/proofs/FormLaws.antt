@@ -4,7 +4,7 @@ use mathlib.Core.Path.{_≡_, refl, sym, ap, _∙_, subst}
 use mathlib.Core.List.{List, [], _∷_, _++_, append-assoc, append-nil}
 use native.Mathlib.Omega.{arith}
 use lib.ListN.{length, getD, take, drop, length-append, length-drop, take-append-drop, drop-of-length-le}
-use lib.Seq.{take-at, drop-at, drop-cons, drop-drop, take-add, length-take-le}
+use lib.Seq.{take-at, drop-at, drop-drop, take-add, length-take-le}
 use borrow.Author.Tests.{le-leb}
 use Rattle.little_endian.specs.LittleEndian.{littleEndian, numberOf, numberWidth, numbersFrom, numbersOf}
 use Rattle.little_endian.proofs.NumberLaws.{length-bytes, number-back, Bytes, bytes-back, bytes-take, bytes-drop}

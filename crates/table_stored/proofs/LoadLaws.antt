@@ -7,14 +7,14 @@ use native.Mathlib.Omega.{arith}
 use lib.ListN.{length, take, drop, length-drop}
 use lib.Seq.{take-all}
 use lib.Dec.{leb, eqb}
-use borrow.Author.Tests.{le-leb, lt-leb, eq-eqb, ne-eqb, leb-true, eqb-true}
+use borrow.Author.Tests.{le-leb, lt-leb, eq-eqb, ne-eqb, eqb-true}
 use Rattle.little_endian.specs.LittleEndian.{numberWidth, numbersOf}
 use Rattle.little_endian.proofs.NumberLaws.{numbers-length}
 use Rattle.table.specs.declared.Summary.{Summary}
 use Rattle.table.specs.Memory.{written}
 use Rattle.table.specs.Rows.{captureWidth, annotationWidth, Table, table}
 use Rattle.table.specs.Table.{wellFormed, noTable}
-use Rattle.table.proofs.Bools.{and-left, and-right, and-false}
+use Rattle.table.proofs.Bools.{and-right, and-false}
 use Rattle.table.proofs.TableLaws.{formed}
 use Rattle.output.specs.Put.{putFront}
 use Rattle.table_stored.specs.Form.{headSize, summaryIn, captureBytes, annotationBytes, tableIn}

@@ -1,15 +1,13 @@
 -- Laws of storing, as the code divides it.
-use Prim.Native.Nat.{ℕ, _+_, _-_, _*_, _/_, _^_, _≤_, _<_}
+use Prim.Native.Nat.{ℕ, _+_, _-_, _*_, _≤_}
 use mathlib.Core.Path.{_≡_, refl, sym, ap, _∙_}
-use mathlib.Core.Bool.{Bool, true, false, cond, _&&_}
-use mathlib.Core.List.{List, [], _∷_, _++_}
-use native.Mathlib.Omega.{arith}
+use mathlib.Core.Bool.{Bool, true, false}
+use mathlib.Core.List.{List, [], _∷_}
 use lib.ListN.{length, take}
-use lib.Dec.{leb, eqb}
-use borrow.Author.Tests.{leb-true, le-leb, lt-leb}
+use lib.Dec.{leb}
+use borrow.Author.Tests.{leb-true, le-leb}
 use Rattle.little_endian.specs.LittleEndian.{littleEndian}
 use Rattle.table.specs.declared.Summary.{Summary}
-use Rattle.table.specs.declared.Wrote.{Wrote}
 use Rattle.table.specs.Memory.{written}
 use Rattle.table.specs.Rows.{captureWidth, captureNumbers, annotationWidth, annotationNumbers, flat, table, capturesOf, annotationsOf}
 use Rattle.table.specs.Summary.{summaryNumbers}

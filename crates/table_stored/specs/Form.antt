@@ -1,7 +1,7 @@
 -- Request P5: the stored form of a table.
 use Prim.Native.Nat.{ℕ, _+_, _*_}
 use mathlib.Core.List.{List, _++_}
-use lib.ListN.{length, take, drop}
+use lib.ListN.{take, drop}
 use Rattle.json_blocks.specs.TextBytes.{ascii}
 use Rattle.little_endian.specs.LittleEndian.{littleEndian, numberWidth, numbersOf}
 use Rattle.table.specs.declared.Summary.{Summary}

@@ -1,14 +1,8 @@
-use native.Mathlib.Omega.{arith}
-use lib.ListN.{length, getD, drop}
-use Prim.Native.Nat.{ℕ, _≤_, _<_, _-_, _+_, _*_}
-use mathlib.Core.Path.{_≡_, refl, sym, ap, _∙_}
+use Prim.Native.Nat.{_-_}
 use Rattle.little_endian.proofs.ReadLaws.{eight-bytes}
 use borrow.Author.Needs.{needs}
 use Rattle.little_endian.proofs.number_from.Statement.{statement}
 use Rattle.little_endian.proofs.number_from.Tie as tie
-use Rattle.little_endian.proofs.number_from.Reads as reads
-use Rattle.little_endian.proofs.number_from.Lts as lts
-use Rattle.little_endian.proofs.two_bytes.Reads as two-bytes-reads
 
 shared-slice-read-two-bytes : tie.Need-shared-slice-read-two-bytes
 shared-slice-read-two-bytes c = search needs

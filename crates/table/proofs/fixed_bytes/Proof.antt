@@ -1,13 +1,8 @@
-use native.Mathlib.Omega.{arith}
-use lib.ListN.{length, getD, drop}
-use Prim.Native.Nat.{ℕ, _≤_, _<_, _-_, _+_, _*_}
-use mathlib.Core.Path.{_≡_, refl, sym, ap, _∙_}
+use Prim.Native.Nat.{_-_}
 use Rattle.table.proofs.TableLaws.{fixed-many, fixed-part, fixed-mul, fixed-over, fixed-add, fixed-is}
 use borrow.Author.Needs.{needs}
 use Rattle.table.proofs.fixed_bytes.Statement.{statement}
 use Rattle.table.proofs.fixed_bytes.Tie as tie
-use Rattle.table.proofs.fixed_bytes.Reads as reads
-use Rattle.table.proofs.fixed_bytes.Lts as lts
 
 div-if1 : tie.Need-div-if1
 div-if1 c = search needs

@@ -1,16 +1,11 @@
 use borrow.Author.Needs.{needs}
-use native.Mathlib.Omega.{arith}
-use lib.ListN.{length, getD, drop}
-use Prim.Native.Nat.{ℕ, _≤_, _<_, _-_, _+_, _*_}
-use mathlib.Core.Path.{_≡_, refl, sym, ap, _∙_}
-use Rattle.little_endian.specs.LittleEndian.{numbersOf, numberWidth}
+use Prim.Native.Nat.{_-_}
+use mathlib.Core.Path.{sym}
+use Rattle.little_endian.specs.LittleEndian.{numbersOf}
 use Rattle.little_endian.proofs.NumberLaws.{numbers-length}
 use Rattle.output.proofs.Writing.{Copied, copy-begin, copy-inside, copy-on, copy-long, copy-end, put-none}
 use Rattle.table_stored.proofs.get_numbers.Statement.{statement}
 use Rattle.table_stored.proofs.get_numbers.Tie as tie
-use Rattle.table_stored.proofs.get_numbers.Reads as reads
-use Rattle.table_stored.proofs.get_numbers.Lts as lts
-use Rattle.little_endian.proofs.number_at.Reads as number-at-reads
 
 abbrev Inv-loop : tie.InvT-loop
 Inv-loop bytes out₀ n i₀ out i = Copied (numbersOf bytes) out₀ out n i

@@ -1,13 +1,7 @@
-use borrow.Author.Needs.{needs}
-use native.Mathlib.Omega.{arith}
-use lib.ListN.{length, getD, drop}
-use Prim.Native.Nat.{ℕ, _≤_, _<_, _-_, _+_, _*_}
-use mathlib.Core.Path.{_≡_, refl, sym, ap, _∙_}
+use Prim.Native.Nat.{_-_}
 use Rattle.table_stored.proofs.CodeLaws.{room-head, room-captures, room-is}
 use Rattle.table_stored.proofs.has_room.Statement.{statement}
 use Rattle.table_stored.proofs.has_room.Tie as tie
-use Rattle.table_stored.proofs.has_room.Reads as reads
-use Rattle.table_stored.proofs.has_room.Lts as lts
 
 returns : tie.Need-returns
 returns c = search room-head

@@ -1,13 +1,9 @@
 use Rattle.table_stored.proofs.CodeLaws.{opens-not, opens-version, opens-short, opens-last}
 use native.Mathlib.Omega.{arith}
-use lib.ListN.{length, getD, drop}
-use Prim.Native.Nat.{ℕ, _≤_, _<_, _-_, _+_, _*_}
-use mathlib.Core.Path.{_≡_, refl, sym, ap, _∙_}
+use Prim.Native.Nat.{_-_}
 use borrow.Author.Needs.{needs}
 use Rattle.table_stored.proofs.is_opening.Statement.{statement}
 use Rattle.table_stored.proofs.is_opening.Tie as tie
-use Rattle.table_stored.proofs.is_opening.Reads as reads
-use Rattle.table_stored.proofs.is_opening.Lts as lts
 
 returns : tie.Need-returns
 returns c = search opens-short

@@ -1,18 +1,8 @@
 use Rattle.table_stored.proofs.LoadLaws.{length-good, loaded-21, loaded-short, loaded-22, loaded-no, loaded-all}
-use native.Mathlib.Omega.{arith}
-use lib.ListN.{length, getD, drop}
-use Prim.Native.Nat.{ℕ, _≤_, _<_, _-_, _+_, _*_}
-use mathlib.Core.Path.{_≡_, refl, sym, ap, _∙_}
+use Prim.Native.Nat.{_-_}
 use borrow.Author.Needs.{needs}
 use Rattle.table_stored.proofs.load.Statement.{statement}
 use Rattle.table_stored.proofs.load.Tie as tie
-use Rattle.table_stored.proofs.load.Reads as reads
-use Rattle.table_stored.proofs.load.Lts as lts
-use Rattle.table.proofs.no_table.Reads as no-table-reads
-use Rattle.table_stored.proofs.is_opening.Reads as is-opening-reads
-use Rattle.table_stored.proofs.load_from.Reads as load-from-reads
-use Rattle.table_stored.proofs.rows_are.Reads as rows-are-reads
-use Rattle.table_stored.proofs.summary_of.Reads as summary-of-reads
 
 is-opening-requires : tie.Need-is-opening-requires
 is-opening-requires c κs = search needs

@@ -1,14 +1,10 @@
 use Rattle.table_stored.proofs.LoadLaws.{file-length, file-table, rows-same}
 use native.Mathlib.Omega.{arith}
-use lib.ListN.{length, getD, drop}
-use Prim.Native.Nat.{ℕ, _≤_, _<_, _-_, _+_, _*_}
-use mathlib.Core.Path.{_≡_, refl, sym, ap, _∙_}
+use Prim.Native.Nat.{_-_}
+use mathlib.Core.Path.{refl}
 use borrow.Author.Needs.{needs}
 use Rattle.table_stored.proofs.load_from.Statement.{statement}
 use Rattle.table_stored.proofs.load_from.Tie as tie
-use Rattle.table_stored.proofs.load_from.Reads as reads
-use Rattle.table_stored.proofs.load_from.Lts as lts
-use Rattle.table_stored.proofs.load_rows.Reads as load-rows-reads
 
 mul-from : tie.Need-mul-from
 mul-from c = omega (arith, file-length (c .before .before .before .args .file .now) (c .before .before .before .args .t) (c .before .before .before .pre .0) (c .before .before .before .pre .1), c .before .before .before .good)

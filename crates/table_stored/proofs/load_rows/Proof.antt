@@ -2,16 +2,11 @@ use Rattle.table_stored.proofs.LoadLaws.{rows-18, rows-captures, rows-a
 use Rattle.little_endian.specs.LittleEndian.{numbersOf}
 use Rattle.table.specs.Rows.{captureWidth, annotationWidth, table}
 use native.Mathlib.Omega.{arith}
-use lib.ListN.{length, getD, drop}
-use Prim.Native.Nat.{ℕ, _≤_, _<_, _-_, _+_, _*_}
-use mathlib.Core.Path.{_≡_, refl, sym, ap, _∙_}
+use Prim.Native.Nat.{_-_}
+use mathlib.Core.Path.{refl}
 use borrow.Author.Needs.{needs}
 use Rattle.table_stored.proofs.load_rows.Statement.{statement}
 use Rattle.table_stored.proofs.load_rows.Tie as tie
-use Rattle.table_stored.proofs.load_rows.Reads as reads
-use Rattle.table_stored.proofs.load_rows.Lts as lts
-use Rattle.table.proofs.bytes.well_formed.Reads as well-formed-reads
-use Rattle.table_stored.proofs.get_numbers.Reads as get-numbers-reads
 
 well-formed-requires : tie.Need-well-formed-requires
 well-formed-requires c κs = search needs

@@ -1,14 +1,10 @@
 use native.Mathlib.Omega.{arith}
-use lib.ListN.{length, getD, drop}
-use Prim.Native.Nat.{ℕ, _≤_, _<_, _-_, _+_, _*_}
-use mathlib.Core.Path.{_≡_, refl, sym, ap, _∙_}
+use Prim.Native.Nat.{_-_}
 use Rattle.table_stored.proofs.CodeLaws.{eight-stores}
 use lib.ListN.{length-set}
 use borrow.Author.Needs.{needs}
 use Rattle.table_stored.proofs.put_number.Statement.{statement}
 use Rattle.table_stored.proofs.put_number.Tie as tie
-use Rattle.table_stored.proofs.put_number.Reads as reads
-use Rattle.table_stored.proofs.put_number.Lts as lts
 
 cast-out : tie.Need-cast-out
 cast-out c = search needs

@@ -8,14 +8,11 @@ use Rattle.table_stored.specs.Form.{eightEach}
 use Rattle.table_stored.proofs.CodeLaws.{front-room, front-written}
 use borrow.Author.Needs.{needs}
 use native.Mathlib.Omega.{arith}
-use lib.ListN.{length, getD, drop}
-use Prim.Native.Nat.{ℕ, _≤_, _<_, _-_, _+_, _*_}
-use mathlib.Core.Path.{_≡_, refl, sym, ap, _∙_}
+use lib.ListN.{getD}
+use Prim.Native.Nat.{_-_}
+use mathlib.Core.Path.{refl, sym}
 use Rattle.table_stored.proofs.put_numbers.Statement.{statement}
 use Rattle.table_stored.proofs.put_numbers.Tie as tie
-use Rattle.table_stored.proofs.put_numbers.Reads as reads
-use Rattle.table_stored.proofs.put_numbers.Lts as lts
-use Rattle.table_stored.proofs.put_number.Reads as put-number-reads
 
 abbrev Inv-loop : tie.InvT-loop
 Inv-loop out₀ numbers n used₀ k₀ out used k = Writes (eightEach (rest (λ j. getD numbers j 0) n 0)) out₀ out used (eightEach (rest (λ j. getD numbers j 0) n k) ∷ [])

@@ -2,17 +2,10 @@ use Rattle.table_stored.proofs.StoreLaws.{captures-in, annotations-in, 
 use Rattle.table_stored.proofs.FormLaws.{summary-length, front-bytes}
 use Rattle.output.proofs.Writing.{first-put, next-from, next-room, next-sum, writes-next, writes-end}
 use native.Mathlib.Omega.{arith}
-use lib.ListN.{length, getD, drop}
-use Prim.Native.Nat.{ℕ, _≤_, _<_, _-_, _+_, _*_}
-use mathlib.Core.Path.{_≡_, refl, sym, ap, _∙_}
+use Prim.Native.Nat.{_-_}
 use borrow.Author.Needs.{needs}
 use Rattle.table_stored.proofs.put_table.Statement.{statement}
 use Rattle.table_stored.proofs.put_table.Tie as tie
-use Rattle.table_stored.proofs.put_table.Reads as reads
-use Rattle.table_stored.proofs.put_table.Lts as lts
-use Rattle.output.proofs.put_word.Reads as put-word-reads
-use Rattle.table_stored.proofs.put_numbers.Reads as put-numbers-reads
-use Rattle.table_stored.proofs.put_summary.Reads as put-summary-reads
 
 slice-aggregate-put-word : tie.Need-slice-aggregate-put-word
 slice-aggregate-put-word c = search needs

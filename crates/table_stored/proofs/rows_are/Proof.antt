@@ -1,13 +1,7 @@
-use borrow.Author.Needs.{needs}
-use native.Mathlib.Omega.{arith}
-use lib.ListN.{length, getD, drop}
-use Prim.Native.Nat.{ℕ, _≤_, _<_, _-_, _+_, _*_}
-use mathlib.Core.Path.{_≡_, refl, sym, ap, _∙_}
+use Prim.Native.Nat.{_-_}
 use Rattle.table_stored.proofs.CodeLaws.{rows-part, rows-many, rows-is}
 use Rattle.table_stored.proofs.rows_are.Statement.{statement}
 use Rattle.table_stored.proofs.rows_are.Tie as tie
-use Rattle.table_stored.proofs.rows_are.Reads as reads
-use Rattle.table_stored.proofs.rows_are.Lts as lts
 
 returns : tie.Need-returns
 returns c = search rows-part

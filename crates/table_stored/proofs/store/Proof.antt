@@ -1,16 +1,8 @@
 use Rattle.table_stored.proofs.StoreLaws.{store-18, store-20, store-counts, store-room, store-0}
-use native.Mathlib.Omega.{arith}
-use lib.ListN.{length, getD, drop}
-use Prim.Native.Nat.{ℕ, _≤_, _<_, _-_, _+_, _*_}
-use mathlib.Core.Path.{_≡_, refl, sym, ap, _∙_}
+use Prim.Native.Nat.{_-_}
 use borrow.Author.Needs.{needs}
 use Rattle.table_stored.proofs.store.Statement.{statement}
 use Rattle.table_stored.proofs.store.Tie as tie
-use Rattle.table_stored.proofs.store.Reads as reads
-use Rattle.table_stored.proofs.store.Lts as lts
-use Rattle.table.proofs.well_formed.Reads as well-formed-reads
-use Rattle.table_stored.proofs.has_room.Reads as has-room-reads
-use Rattle.table_stored.proofs.put_table.Reads as put-table-reads
 
 well-formed-requires : tie.Need-well-formed-requires
 well-formed-requires c κs = search needs

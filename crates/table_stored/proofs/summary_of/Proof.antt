@@ -1,14 +1,8 @@
-use native.Mathlib.Omega.{arith}
-use lib.ListN.{length, getD, drop}
-use Prim.Native.Nat.{ℕ, _≤_, _<_, _-_, _+_, _*_}
-use mathlib.Core.Path.{_≡_, refl, sym, ap, _∙_}
+use Prim.Native.Nat.{_-_}
 use Rattle.table_stored.proofs.CodeLaws.{summary-is}
 use borrow.Author.Needs.{needs}
 use Rattle.table_stored.proofs.summary_of.Statement.{statement}
 use Rattle.table_stored.proofs.summary_of.Tie as tie
-use Rattle.table_stored.proofs.summary_of.Reads as reads
-use Rattle.table_stored.proofs.summary_of.Lts as lts
-use Rattle.little_endian.proofs.number_at.Reads as number-at-reads
 
 number-at-requires : tie.Need-number-at-requires
 number-at-requires c κs = search needs

@@ -1,18 +1,12 @@
 use borrow.Author.Needs.{needs}
-use native.Mathlib.Omega.{arith}
-use lib.ListN.{length, getD, drop}
-use Prim.Native.Nat.{ℕ, _≤_, _<_, _-_, _+_, _*_}
-use mathlib.Core.Path.{_≡_, refl, sym, ap, _∙_}
+use Prim.Native.Nat.{_≤_, _-_}
+use mathlib.Core.Path.{_≡_}
 use Rattle.little_endian.specs.LittleEndian.{numbersOf}
 use Rattle.table.specs.Rows.{annotationAt, rest, annotations}
 use Rattle.table.specs.Judge.{annotationsOk}
 use Rattle.table.proofs.TableLaws.{note-bad, note-on, note-done}
 use Rattle.table.proofs.bytes.annotations_ok.Statement.{statement}
 use Rattle.table.proofs.bytes.annotations_ok.Tie as tie
-use Rattle.table.proofs.bytes.annotations_ok.Reads as reads
-use Rattle.table.proofs.bytes.annotations_ok.Lts as lts
-use Rattle.table.proofs.annotation_ok.Reads as annotation-ok-reads
-use Rattle.table.proofs.bytes.annotation_at.Reads as annotation-at-reads
 
 abbrev Inv-loop : tie.InvT-loop
 Inv-loop notes n e o s₀ i₀ s i = (i ≤ n) × (annotationsOk e s (rest (annotationAt (numbersOf notes)) n i) ≡ annotationsOk e o (annotations (numbersOf notes) n))

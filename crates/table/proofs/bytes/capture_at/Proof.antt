@@ -1,14 +1,8 @@
-use native.Mathlib.Omega.{arith}
-use lib.ListN.{length, getD, drop}
-use Prim.Native.Nat.{ℕ, _≤_, _<_, _-_, _+_, _*_}
-use mathlib.Core.Path.{_≡_, refl, sym, ap, _∙_}
+use Prim.Native.Nat.{_-_}
 use Rattle.table.proofs.ByteLaws.{byte-capture, no-capture}
 use borrow.Author.Needs.{needs}
 use Rattle.table.proofs.bytes.capture_at.Statement.{statement}
 use Rattle.table.proofs.bytes.capture_at.Tie as tie
-use Rattle.table.proofs.bytes.capture_at.Reads as reads
-use Rattle.table.proofs.bytes.capture_at.Lts as lts
-use Rattle.little_endian.proofs.number_at.Reads as number-at-reads
 
 mul-p : tie.Need-mul-p
 mul-p c = search needs

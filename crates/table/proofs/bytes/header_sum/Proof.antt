@@ -1,17 +1,9 @@
 use borrow.Author.Needs.{needs}
-use native.Mathlib.Omega.{arith}
-use lib.ListN.{length, getD, drop}
-use Prim.Native.Nat.{ℕ, _≤_, _<_, _-_, _+_, _*_}
-use mathlib.Core.Path.{_≡_, refl, sym, ap, _∙_}
+use Prim.Native.Nat.{_-_}
 use Rattle.little_endian.specs.LittleEndian.{numbersOf}
 use Rattle.table.proofs.TableLaws.{Summing, sum-begin, sum-done, sum-over, head-fits, head-below, sum-bad, sum-on}
 use Rattle.table.proofs.bytes.header_sum.Statement.{statement}
 use Rattle.table.proofs.bytes.header_sum.Tie as tie
-use Rattle.table.proofs.bytes.header_sum.Reads as reads
-use Rattle.table.proofs.bytes.header_sum.Lts as lts
-use Rattle.table.proofs.bytes.capture_at.Reads as capture-at-reads
-use Rattle.table.proofs.bytes.next_start.Reads as next-start-reads
-use Rattle.table.proofs.capture_ok.Reads as capture-ok-reads
 
 abbrev Inv-loop : tie.InvT-loop
 Inv-loop caps n o e w cap s₀ h₀ i₀ s h i = Summing (numbersOf caps) n o e w cap s h i

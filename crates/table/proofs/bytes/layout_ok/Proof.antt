@@ -1,15 +1,8 @@
-use native.Mathlib.Omega.{arith}
-use lib.ListN.{length, getD, drop}
-use Prim.Native.Nat.{ℕ, _≤_, _<_, _-_, _+_, _*_}
-use mathlib.Core.Path.{_≡_, refl, sym, ap, _∙_}
+use Prim.Native.Nat.{_-_}
 use Rattle.table.proofs.TableLaws.{lay-over, lay-within, lay-below, lay-bad, lay-good}
 use borrow.Author.Needs.{needs}
 use Rattle.table.proofs.bytes.layout_ok.Statement.{statement}
 use Rattle.table.proofs.bytes.layout_ok.Tie as tie
-use Rattle.table.proofs.bytes.layout_ok.Reads as reads
-use Rattle.table.proofs.bytes.layout_ok.Lts as lts
-use Rattle.table.proofs.bytes.header_sum.Reads as header-sum-reads
-use Rattle.table.proofs.fixed_bytes.Reads as fixed-bytes-reads
 
 fixed-bytes-requires : tie.Need-fixed-bytes-requires
 fixed-bytes-requires c κs = search needs

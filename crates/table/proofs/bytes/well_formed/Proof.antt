@@ -1,7 +1,5 @@
 use native.Mathlib.Omega.{arith}
-use lib.ListN.{length, getD, drop}
-use Prim.Native.Nat.{ℕ, _≤_, _<_, _-_, _+_, _*_}
-use mathlib.Core.Path.{_≡_, refl, sym, ap, _∙_}
+use Prim.Native.Nat.{_-_}
 use Rattle.table.specs.Rows.{captureWidth, annotationWidth}
 use Rattle.little_endian.specs.LittleEndian.{numbersOf}
 use Rattle.table.proofs.ByteLaws.{row-count}
@@ -9,11 +7,6 @@ use Rattle.table.proofs.TableLaws.{wf-numbers, wf-wide, wf-small, wf-en
 use borrow.Author.Needs.{needs}
 use Rattle.table.proofs.bytes.well_formed.Statement.{statement}
 use Rattle.table.proofs.bytes.well_formed.Tie as tie
-use Rattle.table.proofs.bytes.well_formed.Reads as reads
-use Rattle.table.proofs.bytes.well_formed.Lts as lts
-use Rattle.table.proofs.bytes.annotations_ok.Reads as annotations-ok-reads
-use Rattle.table.proofs.bytes.layout_ok.Reads as layout-ok-reads
-use Rattle.table.proofs.numbers_ok.Reads as numbers-ok-reads
 
 numbers-ok-requires : tie.Need-numbers-ok-requires
 numbers-ok-requires c κs = search needs
