@@ -163,7 +163,7 @@ module _ (t : Table) where
 
   module _ (S : Storable t) where
     summary-read : summaryIn (storedOf t) ≡ t .summary
-    summary-read = rw (parts .second, numbers-back (summaryNumbers (t .summary)) (S .head))
+    summary-read = rw (parts .second, numbers-back (summaryNumbers (t .summary)) (S .head)) (Summaries.summary-back (t .summary))
 
     count-read : summaryIn (storedOf t) .captures ≡ t .summary .captures
     count-read = ap (λ (s : Summary). s .captures) summary-read
