@@ -1,6 +1,8 @@
 // Lists a recording. Standard input holds the dataset's length on its first line, then the metadata; prints the listing, or
 // `refused` and document 01's number. Where the input can't be read to its end or the answer can't be written, it says so on
 // standard error.
+#![tactic(auto)]
+
 use first_line::{FirstLine, after, first_line};
 use limits::Limits;
 use listing_output::{ANNOTATIONS, CAPTURES, print_listing};

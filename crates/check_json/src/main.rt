@@ -1,6 +1,8 @@
 // Judges the JSON text on standard input as it arrives. As soon as the text is too long or no continuation meets the JSON rules it prints `lost`
 // and at which byte, counted from 1; in the end `good`, or `refused` and document 01's number. Where the input can't be read to its end or an
 // answer can't be written, it says so on standard error.
+#![tactic(auto)]
+
 use json_automaton::{Control, State};
 use json_judge::{Judged, judge};
 use json_stream::{feed, finish, fresh};

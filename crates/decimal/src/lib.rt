@@ -1,4 +1,6 @@
 // Whole numbers in decimal digits.
+#![tactic(auto)]
+
 ghost use Rattle.std.specs.Prelude.{◌≡◌, ◌+◌, ◌%◌, ◌≤◌, length};
 ghost use Rattle.table.specs.Memory.{written};
 ghost use Rattle.output.specs.Put.{put_count, put_front};

@@ -1,4 +1,6 @@
 // The judge, the reader and the functions on tables, for C and Rust to call. The header is export.h.
+#![tactic(auto)]
+
 ghost use Rattle.std.specs.Prelude.{◌≡◌, length};
 ghost use Rattle.refusals.specs.Refusals.{lowest};
 ghost use Rattle.json_judge.specs.Judged.{judge_rules};

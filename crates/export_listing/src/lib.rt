@@ -1,5 +1,7 @@
 // The label of an annotation and the listing, for C and Rust to call. The header is export_listing.h. They stand apart from the crate
 // `export`, since the compiler then makes a faster judge of strings that are not ASCII there.
+#![tactic(auto)]
+
 ghost use Rattle.std.specs.Prelude.{◌≡◌, length};
 ghost use Rattle.listing.specs.Listing.{listing_answer, listing_memory};
 ghost use Rattle.export_listing.specs.LabelPlace.{labelled};

@@ -1,4 +1,6 @@
 // The lookup of member names, for C and Rust to call. The header is export_names.h.
+#![tactic(auto)]
+
 ghost use Rattle.std.specs.Prelude.{◌≡◌};
 ghost use Rattle.sigmf_names.specs.declared.Object.TheVariants.{Global, Capture, Annotation};
 ghost use Rattle.sigmf_names.specs.Lookup.{lookup_answer};

@@ -1,4 +1,6 @@
 // Tables kept in files, for C and Rust to call. The header is export_stored.h.
+#![tactic(auto)]
+
 ghost use Rattle.std.specs.Prelude.{◌≡◌, length};
 ghost use Rattle.table.specs.Rows.{table};
 ghost use Rattle.table_stored.specs.Store.{store_answer, store_memory};

@@ -1,4 +1,6 @@
 // A JSON text judged as it arrives, for C and Rust to call. The header is export_stream.h.
+#![tactic(auto)]
+
 ghost use Rattle.std.specs.Prelude.{◌≡◌};
 ghost use Rattle.json_automaton.specs.State.{fresh};
 ghost use Rattle.json_stream.specs.Stream.{fed_answer, finished};

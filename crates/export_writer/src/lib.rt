@@ -1,4 +1,6 @@
 // The metadata of a table, for C and Rust to call. The header is export_writer.h.
+#![tactic(auto)]
+
 ghost use Rattle.std.specs.Prelude.{◌≡◌, length};
 ghost use Rattle.table.specs.Rows.{table};
 ghost use Rattle.writer.specs.Writer.{writer_answer, writer_memory};

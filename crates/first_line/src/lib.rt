@@ -1,4 +1,6 @@
 // The first line of a program's input, and what follows it.
+#![tactic(auto)]
+
 ghost use Rattle.std.specs.Prelude.{◌≡◌, drop};
 ghost use Rattle.first_line.specs.FirstLine.{first_line, line_says};
 

@@ -1,4 +1,6 @@
 // A JSON text taken byte by byte: the automaton's types. Its moves stand in specs/ and, as code, in json_transitions.
+#![tactic(auto)]
+
 use limits::Limits;
 
 // What may stand next, how far inside a token the text ended, and the brackets that are open.

@@ -1,5 +1,7 @@
 // The bytes of a text: one at a place, tests of one, blocks of eight. A cursor by value moves past blanks, or past one token, and
 // returns the next cursor.
+#![tactic(auto)]
+
 pub mod blocks;
 mod group;
 

@@ -1,4 +1,6 @@
 // Strings of a JSON text, their characters and escapes. A function gets a cursor by value and returns the one past what it read.
+#![tactic(auto)]
+
 mod plain;
 
 ghost use Rattle.std.specs.Prelude.{◌≡◌, ℕ, ◌<◌};

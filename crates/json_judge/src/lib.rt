@@ -1,4 +1,6 @@
 // A JSON text judged as a whole, in one pass: its grammar, and the names in its objects.
+#![tactic(auto)]
+
 mod seen;
 mod values;
 

@@ -1,4 +1,6 @@
 // The decoded texts of JSON strings compared, and their keys, with no buffer.
+#![tactic(auto)]
+
 mod alike;
 mod plain;
 

@@ -1,5 +1,7 @@
 // A JSON text judged as it arrives, chunk by chunk (request P6, whose blocks are our chunks). A state by value goes from chunk to chunk; it
 // may come back from anywhere, and each function judges it first.
+#![tactic(auto)]
+
 mod reach;
 
 ghost use Rattle.std.specs.Prelude.{◌≡◌, length};

@@ -1,4 +1,6 @@
 // The decoded text of a JSON string, a byte or a character at a time, with no buffer.
+#![tactic(auto)]
+
 mod characters;
 
 ghost use Rattle.std.specs.Prelude.{◌≡◌, ℕ, ◌<◌, ◌≤◌, length, get_or};

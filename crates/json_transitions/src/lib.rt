@@ -1,4 +1,6 @@
 // The moves of the automaton over JSON texts, and a run over the bytes of a chunk.
+#![tactic(auto)]
+
 mod token;
 
 ghost use Rattle.std.specs.Prelude.{◌≡◌, ◌≤◌, length};

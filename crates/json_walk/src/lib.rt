@@ -1,4 +1,6 @@
 // The members of objects and the elements of arrays of a text that is JSON, one by one.
+#![tactic(auto)]
+
 ghost use Rattle.std.specs.Prelude.{◌≡◌, ℕ, ◌<◌};
 ghost use Rattle.json_grammar.specs.Skip.{skip_string, opens, closes, skip_open, token_byte, skip_value};
 ghost use Rattle.json_blocks.specs.TextBytes.{skip_while};

@@ -1,4 +1,6 @@
 // The limits of document 01, named once. Every other crate uses these names.
+#![tactic(auto)]
+
 ghost use Rattle.std.specs.Prelude.{◌≡◌};
 ghost use Rattle.limits.specs.Limits.{limits};
 

@@ -2,6 +2,8 @@
 // labels; prints the listing, or `refused` and document 01's or request P5's number. Metadata that is too long is refused with 1, before
 // the table is judged. Where the input can't be read to its end or holds no table of that length, or the answer can't be written, it
 // says so on standard error.
+#![tactic(auto)]
+
 use first_line::{FirstLine, after, first_line};
 use limits::Limits;
 use listing_output::{ANNOTATIONS, CAPTURES, print_listing};

@@ -1,4 +1,6 @@
 // The listing of a recording, a line for the recording and for each of its rows.
+#![tactic(auto)]
+
 mod lines;
 
 ghost use Rattle.std.specs.Prelude.{◌≡◌, ◌+◌, ◌≤◌, length};

@@ -1,4 +1,6 @@
 // The label of an annotation, as a part of the lent metadata.
+#![tactic(auto)]
+
 ghost use Rattle.std.specs.Prelude.{◌≡◌, ◌+◌};
 ghost use Rattle.table.specs.Rows.{annotations, table};
 ghost use Rattle.table.specs.Place.{absent};

@@ -1,4 +1,6 @@
 // The listing of a table on standard output, and the rooms of the programs that list.
+#![tactic(auto)]
+
 use listing::listing;
 use standard_streams::{refuse, write_first};
 use table::Summary;

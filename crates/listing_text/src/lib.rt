@@ -1,4 +1,6 @@
 // A label as the listing shows it: what it leaves of a room, and written to the front of memory.
+#![tactic(auto)]
+
 ghost use Rattle.std.specs.Prelude.{◌≡◌, ◌≤◌, ◌<◌, length};
 ghost use Rattle.json_strings.specs.Decode.{decoded_from};
 ghost use Rattle.table.specs.Memory.{written};

@@ -1,4 +1,6 @@
 // Numbers of eight bytes each, one after the other, little-endian.
+#![tactic(auto)]
+
 ghost use Rattle.std.specs.Prelude.{◌≡◌, ◌+◌, ◌*◌, ◌<◌, ◌≤◌, length, get_or, take, drop};
 ghost use Rattle.little_endian.specs.LittleEndian.{number_of, number_width, numbers_of};
 

@@ -1,4 +1,6 @@
 // Bytes put to the front of lent memory, all or none, and what they leave of a room.
+#![tactic(auto)]
+
 ghost use Rattle.std.specs.Prelude.{◌≡◌};
 ghost use Rattle.sigmf_datatypes.specs.Datatypes.{datatype_name};
 ghost use Rattle.output.specs.Put.{put_count, put_front};

@@ -1,4 +1,6 @@
 // The reader: the bytes of a metadata file and the length of its dataset to a table.
+#![tactic(auto)]
+
 mod arrays;
 mod scan;
 mod top;

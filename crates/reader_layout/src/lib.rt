@@ -1,4 +1,6 @@
 // Where the samples of a recording lie, from the numbers of its metadata and the length of its dataset: refusals 15 to 17, rows, summary.
+#![tactic(auto)]
+
 ghost use Rattle.std.specs.Prelude.{◌≡◌, true, ◌&&◌, ℕ, ◌+◌, ◌-◌, ◌*◌, ◌^◌, ◌<◌, ◌≤◌, min, leb, length, map};
 ghost use Rattle.limits.specs.Limits.{dataset};
 ghost use Rattle.refusals.specs.Refusals.{lowest};

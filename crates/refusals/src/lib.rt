@@ -1,4 +1,6 @@
 // Refusal numbers: the lower of two, where 0 is none.
+#![tactic(auto)]
+
 ghost use Rattle.std.specs.Prelude.{◌≡◌};
 ghost use Rattle.refusals.specs.Refusals.{least};
 

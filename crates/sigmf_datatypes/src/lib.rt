@@ -1,4 +1,6 @@
 // The datatypes of a recording: their names, the bytes of a component and of a sample.
+#![tactic(auto)]
+
 ghost use Rattle.std.specs.Prelude.{◌≡◌, length, get_or};
 ghost use Rattle.sigmf_datatypes.specs.Datatypes.{is_listed, datatype_of, datatype_name, zero_filled, channel_bytes, sample_bytes};
 ghost use Rattle.sigmf_datatypes.specs.Entry.{entry_of};

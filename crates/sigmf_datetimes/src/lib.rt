@@ -1,4 +1,6 @@
 // Datetimes, judged decoded and taken apart. The judge is handed the part of the text that holds the value, with its quotes.
+#![tactic(auto)]
+
 pub mod datetimes;
 
 use json_strings::Position;

@@ -1,4 +1,6 @@
 // Extension entries.
+#![tactic(auto)]
+
 pub mod entries;
 pub mod entry;
 

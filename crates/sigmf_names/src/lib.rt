@@ -1,4 +1,6 @@
 // The core names of each kind of object, with their numbers and types. A name's judge is handed the raw name between its quotes.
+#![tactic(auto)]
+
 mod decoded;
 mod lookup;
 pub mod names;

@@ -1,4 +1,6 @@
 // The global object, a capture and an annotation, each read off the text from its opening brace on.
+#![tactic(auto)]
+
 pub mod annotation;
 pub mod capture;
 pub mod global;

@@ -1,5 +1,7 @@
 // Judges of decoded texts. A value's judge is handed the part of the text that holds the value, with its quotes; a name's judge
 // is handed the raw name between its quotes.
+#![tactic(auto)]
+
 pub mod form;
 
 ghost use Rattle.std.specs.Prelude.{◌≡◌};

@@ -1,4 +1,6 @@
 // Judges of one value. A judge is handed the part of the text that holds the value, a string with its quotes.
+#![tactic(auto)]
+
 pub mod value;
 
 // A uint's value, or that there is none.

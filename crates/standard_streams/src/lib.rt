@@ -1,4 +1,5 @@
 // What the programs share: whether standard input was read to its end, and answers written to a descriptor.
+#![tactic(auto)]
 
 // Standard input does not end here: another read gives a byte or fails.
 pub fn is_unread() -> bool {

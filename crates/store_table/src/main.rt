@@ -1,6 +1,8 @@
 // Stores the table of a recording. Standard input holds the dataset's length on its first line, then the metadata. Writes the table to
 // standard output, and to standard error `stored` with the table's length; or there `refused` and document 01's number, and no table.
 // Where the input can't be read to its end or the table can't be written, it says so there instead.
+#![tactic(auto)]
+
 use first_line::{FirstLine, after, first_line};
 use limits::Limits;
 use reader::read;

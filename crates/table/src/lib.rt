@@ -1,4 +1,6 @@
 // A table of a recording: its summary, its rows in lent flat memory, whether it is well formed, and the place of a sample.
+#![tactic(auto)]
+
 pub mod bytes;
 
 ghost use Rattle.std.specs.Prelude.{◌≡◌, true, false, [], ℕ, ◌+◌, ◌-◌, ◌*◌, ◌^◌, ◌<◌, ◌≤◌, length};

@@ -1,4 +1,6 @@
 // Ranges of samples: their pieces, and the copy of their bytes.
+#![tactic(auto)]
+
 ghost use Rattle.std.specs.Prelude.{◌≡◌, true, false, ◌+◌, ◌-◌, ◌*◌, ◌^◌, ◌<◌, ◌≤◌, [], length};
 ghost use Rattle.table.specs.Memory.{written, put_row};
 ghost use Rattle.table.specs.Rows.{capture_at, rest, flat, table};

@@ -1,4 +1,6 @@
 // A table kept in a file: stored as bytes, and loaded back.
+#![tactic(auto)]
+
 ghost use Rattle.std.specs.Prelude.{◌≡◌, true, cond, ◌+◌, ◌*◌, ◌≤◌, length, take, leb, eqb};
 ghost use Rattle.little_endian.specs.LittleEndian.{little_endian, number_width, numbers_of};
 ghost use Rattle.table.specs.Memory.{written};

@@ -1,5 +1,7 @@
 // Answers cases. Each case on standard input is a line of a letter, a space and the payload's length, and then the payload,
 // as second/README.md says; its answer is one line. A broken frame or an unknown letter ends the run with the line `stopped`.
+#![tactic(auto)]
+
 mod body_cases;
 mod field_cases;
 mod frames;

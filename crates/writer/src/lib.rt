@@ -1,4 +1,6 @@
 // The metadata of a table, written as JSON text.
+#![tactic(auto)]
+
 mod parts;
 
 ghost use Rattle.std.specs.Prelude.{◌≡◌, ◌≤◌, min, length};
