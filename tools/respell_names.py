@@ -1,7 +1,9 @@
 #!/usr/bin/env python3
 """Gives the repository's own definitions and lemmas the spelling of today's Rattle: snake case for everything but types and modules.
 
-use: python3 tools/respell_names.py [--show]     at the top of the repository, once, after port.py
+use: python3 tools/respell_names.py [--show] [NAMES.txt]     at the top of the repository, once, after port.py
+
+--show prints each old and new name; NAMES.txt, so printed, stands for the names that the repository declares.
 
 It renames in crates/ alone, in .antt and .rt files. Names of Rust's source, of exported C functions, strings, inputs and outputs stay. A dash beside
 a type or an operator stays, since it joins two names. Where a definition and a lemma would fall together the lemma gets `_lem`.
@@ -80,7 +82,9 @@ def respell(text, new, in_source):
     quoted = False
     for i, part in enumerate(parts):
         if i % 2:
-            if in_source and part.count('"') % 2:
+            # a quote in a character literal is between apostrophes
+            beside = parts[i - 1][-1:] == "'" and parts[i + 1][:1] == "'"
+            if in_source and part.count('"') % 2 and not beside:
                 quoted = not quoted
             continue
         if quoted or part in left:
@@ -100,6 +104,10 @@ def respell(text, new, in_source):
 def main():
     root = "crates"
     new = renamings(own_names(root))
+    for option in sys.argv[1:]:
+        if option.endswith(".txt"):
+            with open(option, encoding="utf-8") as f:
+                new = dict(line.split() for line in f)
     if "--show" in sys.argv:
         for o in sorted(new):
             print(o, new[o])

@@ -43,7 +43,7 @@ pub fn is_plain(b: u8) -> bool
 
 // A byte of a string that is no quote and no backslash.
 pub fn is_ordinary(b: u8) -> bool
-    ensures { result ≡ ordinaryByte b }
+    ensures { result ≡ ordinary_byte b }
 {
     if b == b'"' {
         return false;

@@ -48,7 +48,7 @@ pub fn is_short_escape(b: u8) -> bool
 
 // A hexadecimal digit's number; 16 for any other byte.
 pub fn hex_digit(b: u8) -> usize
-    ensures { result ≡ hexValue b }
+    ensures { result ≡ hex_value b }
 {
     let n = b as usize;
     if is_within(b'0', b'9', b) {
@@ -66,7 +66,7 @@ pub fn hex_digit(b: u8) -> usize
 // One byte from lo to hi.
 pub(crate) fn byte_within(start: Cursor, s: &[u8], lo: u8, hi: u8) -> Read
     requires { 0 < lo }
-    ensures { result ≡ byteWithin s.now lo hi start.at }
+    ensures { result ≡ byte_within s.now lo hi start.at }
 {
     let at = start.at;
     let b = peek(s, at);
@@ -79,7 +79,7 @@ pub(crate) fn byte_within(start: Cursor, s: &[u8], lo: u8, hi: u8) -> Read
 // A byte from lo to hi and one continuation byte.
 pub(crate) fn two_bytes(start: Cursor, s: &[u8], lo: u8, hi: u8) -> Read
     requires { 0 < lo }
-    ensures { result ≡ twoBytes s.now lo hi start.at }
+    ensures { result ≡ two_bytes s.now lo hi start.at }
 {
     let r = byte_within(start, s, lo, hi);
     let Read::To(c) = r else {
@@ -91,7 +91,7 @@ pub(crate) fn two_bytes(start: Cursor, s: &[u8], lo: u8, hi: u8) -> Read
 // A byte from lo to hi and two continuation bytes.
 pub(crate) fn three_bytes(start: Cursor, s: &[u8], lo: u8, hi: u8) -> Read
     requires { 0 < lo }
-    ensures { result ≡ threeBytes s.now lo hi start.at }
+    ensures { result ≡ three_bytes s.now lo hi start.at }
 {
     let r = byte_within(start, s, lo, hi);
     let Read::To(c) = r else {
@@ -102,7 +102,7 @@ pub(crate) fn three_bytes(start: Cursor, s: &[u8], lo: u8, hi: u8) -> Read
 
 // A character of several bytes in UTF-8, from past its first byte b.
 pub(crate) fn multibyte(start: Cursor, s: &[u8], b: u8) -> Read
-    ensures { result ≡ multibyteAt b s.now start.at }
+    ensures { result ≡ multibyte_at b s.now start.at }
 {
     if is_within(0xC2, 0xDF, b) {
         return byte_within(start, s, 0x80, 0xBF);
@@ -133,7 +133,7 @@ pub(crate) fn multibyte(start: Cursor, s: &[u8], b: u8) -> Read
 
 // Four hexadecimal digits.
 pub fn four_digits(start: Cursor, s: &[u8]) -> Hex4
-    ensures { result ≡ hex4At s.now start.at }
+    ensures { result ≡ hex4_at s.now start.at }
 {
     let at = start.at;
     let a = hex_digit(peek(s, at));
@@ -157,7 +157,7 @@ pub fn four_digits(start: Cursor, s: &[u8]) -> Hex4
 
 // The escape of a low surrogate.
 pub(crate) fn low_surrogate(start: Cursor, s: &[u8]) -> Read
-    ensures { result ≡ lowSurrogateAt s.now start.at }
+    ensures { result ≡ low_surrogate_at s.now start.at }
 {
     let at = start.at;
     let b = peek(s, at);
@@ -180,7 +180,7 @@ pub(crate) fn low_surrogate(start: Cursor, s: &[u8]) -> Read
 
 // From past a backslash and u.
 pub(crate) fn unicode_escape(start: Cursor, s: &[u8]) -> Read
-    ensures { result ≡ unicodeEscapeAt s.now start.at }
+    ensures { result ≡ unicode_escape_at s.now start.at }
 {
     let f = four_digits(start, s);
     let Hex4::Code(n, c) = f else {
@@ -197,7 +197,7 @@ pub(crate) fn unicode_escape(start: Cursor, s: &[u8]) -> Read
 
 // From past a backslash.
 pub(crate) fn escape(start: Cursor, s: &[u8]) -> Read
-    ensures { result ≡ escapeAt s.now start.at }
+    ensures { result ≡ escape_at s.now start.at }
 {
     let at = start.at;
     let b = peek(s, at);
@@ -212,7 +212,7 @@ pub(crate) fn escape(start: Cursor, s: &[u8]) -> Read
 
 // One character of a string, or one escape. A quote, too, is a character here.
 pub fn character(start: Cursor, s: &[u8]) -> Read
-    ensures { result ≡ characterAt s.now start.at }
+    ensures { result ≡ character_at s.now start.at }
 {
     let at = start.at;
     let b = peek(s, at);
@@ -230,7 +230,7 @@ pub fn character(start: Cursor, s: &[u8]) -> Read
 
 // A string, from past its opening quote.
 pub fn string(start: Cursor, s: &[u8]) -> Read
-    ensures { result ≡ stringAt s.now start.at }
+    ensures { result ≡ string_at s.now start.at }
 {
     let mut i = skip_plain(s, start.at);
     loop {

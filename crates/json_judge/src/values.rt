@@ -43,7 +43,7 @@ pub(crate) fn leaf(s: &[u8], at: usize) -> Read
 
 // What a reading tells where no object stands in what was read.
 pub(crate) fn plain(r: Read) -> Scan
-    ensures { result ≡ scanOf r false }
+    ensures { result ≡ scan_of r false }
 {
     match r {
         Read::To(c) => Scan::To(c, false),
@@ -53,7 +53,7 @@ pub(crate) fn plain(r: Read) -> Scan
 
 // A member's name and its colon, with the name's key.
 pub(crate) fn name_key(s: &[u8], at: usize) -> Keyed
-    ensures { result ≡ keyed (name_at s.now at) (key_of (decodedFrom s.now (at + 1))) }
+    ensures { result ≡ keyed (name_at s.now at) (key_of (decoded_from s.now (at + 1))) }
 {
     let b = peek(s, at);
     if b == b'"' {

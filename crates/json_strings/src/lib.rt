@@ -81,7 +81,7 @@ pub(crate) fn pair_code(n: usize, m: usize) -> usize
     requires n_bound { n ≤ 0xDBFF }
     requires le_m { 0xDC00 ≤ m }
     requires m_bound { m ≤ 0xDFFF }
-    ensures { result ≡ pairCode n m }
+    ensures { result ≡ pair_code n m }
 {
     0x10000 + (n - 0xD800) * 0x400 + (m - 0xDC00)
 }
@@ -90,7 +90,7 @@ pub(crate) fn pair_code(n: usize, m: usize) -> usize
 pub(crate) fn low_unit(s: &[u8], n: usize, at: usize) -> Unit
     requires le_n { 0xD800 ≤ n }
     requires n_bound { n ≤ 0xDBFF }
-    ensures { result ≡ lowUnit s.now n at }
+    ensures { result ≡ low_unit s.now n at }
 {
     let b = peek(s, at);
     if b == b'\\' {
@@ -114,7 +114,7 @@ pub(crate) fn low_unit(s: &[u8], n: usize, at: usize) -> Unit
 
 // From past a backslash and u.
 pub(crate) fn unicode_unit(s: &[u8], at: usize) -> Unit
-    ensures { result ≡ unicodeUnit s.now at }
+    ensures { result ≡ unicode_unit s.now at }
 {
     let f = four_digits(Cursor { at: at }, s);
     let Hex4::Code(n, c) = f else {
@@ -132,7 +132,7 @@ pub(crate) fn unicode_unit(s: &[u8], at: usize) -> Unit
 
 // From past a backslash.
 pub(crate) fn escape_unit(s: &[u8], at: usize) -> Unit
-    ensures { result ≡ escapeUnit s.now at }
+    ensures { result ≡ escape_unit s.now at }
 {
     let b = peek(s, at);
     let p = short_code(b);
@@ -180,7 +180,7 @@ pub(crate) fn utf8_first(p: usize) -> u8
 
 // A later byte of a code point in UTF-8, the j-th from its last.
 pub(crate) fn utf8_later(p: usize, j: usize) -> u8
-    ensures { result ≡ laterByte p j }
+    ensures { result ≡ later_byte p j }
 {
     if j == 0 {
         return (0x80 + p % 0x40) as u8;
@@ -208,7 +208,7 @@ pub(crate) fn utf8_byte(p: usize, n: usize, k: usize) -> u8
 pub(crate) fn escaped_byte(s: &[u8], at: usize, passed: usize) -> Stream
     requires at_value { byte s.now at ≡ 0x5C }
     requires at_in_bounds { at < length s.now }
-    ensures { result ≡ nextByte s.now (record { at = at; passed = passed }) }
+    ensures { result ≡ next_byte s.now (record { at = at; passed = passed }) }
 {
     let next = at + 1;
     let u = escape_unit(s, next);
@@ -244,14 +244,14 @@ pub(crate) fn escaped_byte(s: &[u8], at: usize, passed: usize) -> Stream
 
 // The next decoded byte from a position on.
 pub fn next_byte(s: &[u8], p: Position) -> Stream
-    ensures { result ≡ nextByte s.now p }
+    ensures { result ≡ next_byte s.now p }
 {
     byte_at(s, p.at, p.passed)
 }
 
 // The same by the position's numbers: a struct that is no argument of a call stays in registers.
 pub(crate) fn byte_at(s: &[u8], at: usize, passed: usize) -> Stream
-    ensures { result ≡ nextByte s.now (record { at = at; passed = passed }) }
+    ensures { result ≡ next_byte s.now (record { at = at; passed = passed }) }
 {
     if at < s.len() {
         let b = s[at];

@@ -126,7 +126,7 @@ fn value_move(stack: u64, b: u8) -> Control
 
 // An element begins, or a member's name.
 fn item_move(stack: u64, b: u8) -> Control
-    ensures { result ≡ itemMove stack b }
+    ensures { result ≡ item_move stack b }
 {
     if is_object_top(stack) {
         if b == b'"' {

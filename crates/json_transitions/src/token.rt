@@ -113,7 +113,7 @@ fn text_move(b: u8) -> u64
 
 // After a backslash.
 fn escape_move(b: u8) -> u64
-    ensures { result ≡ escapeMove b }
+    ensures { result ≡ escape_move b }
 {
     if is_short_escape(b) {
         return 1;
@@ -126,7 +126,7 @@ fn escape_move(b: u8) -> u64
 
 // The first digit of an escape: a `d` may begin a surrogate.
 fn first_hex_move(b: u8) -> u64
-    ensures { result ≡ firstHexMove b }
+    ensures { result ≡ first_hex_move b }
 {
     let h = hex_digit(b);
     if 15 < h {
@@ -140,7 +140,7 @@ fn first_hex_move(b: u8) -> u64
 
 // The digit after it: no surrogate, or a high one; a low one stands nowhere first.
 fn surrogate_move(b: u8) -> u64
-    ensures { result ≡ surrogateMove b }
+    ensures { result ≡ surrogate_move b }
 {
     let h = hex_digit(b);
     if h < 8 {
@@ -154,7 +154,7 @@ fn surrogate_move(b: u8) -> u64
 
 // The first digit of a number.
 pub(crate) fn minus_move(b: u8) -> u64
-    ensures { result ≡ minusMove b }
+    ensures { result ≡ minus_move b }
 {
     if b == b'0' {
         return 22;
@@ -164,7 +164,7 @@ pub(crate) fn minus_move(b: u8) -> u64
 
 // An exponent begins.
 fn exponent_move(b: u8) -> u64
-    ensures { result ≡ exponentMove b }
+    ensures { result ≡ exponent_move b }
 {
     if b == b'e' {
         return 26;
@@ -177,7 +177,7 @@ fn exponent_move(b: u8) -> u64
 
 // A fraction begins, or an exponent.
 fn fraction_move(b: u8) -> u64
-    ensures { result ≡ fractionMove b }
+    ensures { result ≡ fraction_move b }
 {
     if b == b'.' {
         return 24;
@@ -187,7 +187,7 @@ fn fraction_move(b: u8) -> u64
 
 // After `e`.
 fn sign_move(b: u8) -> u64
-    ensures { result ≡ signMove b }
+    ensures { result ≡ sign_move b }
 {
     if b == b'+' {
         return 27;
@@ -200,7 +200,7 @@ fn sign_move(b: u8) -> u64
 
 // In an integer that does not begin with 0.
 fn integer_move(b: u8) -> u64
-    ensures { result ≡ tokenMove 23 b }
+    ensures { result ≡ token_move 23 b }
 {
     if is_within(b'0', b'9', b) {
         return 23;
@@ -210,7 +210,7 @@ fn integer_move(b: u8) -> u64
 
 // In a fraction.
 fn decimal_move(b: u8) -> u64
-    ensures { result ≡ tokenMove 25 b }
+    ensures { result ≡ token_move 25 b }
 {
     if is_within(b'0', b'9', b) {
         return 25;
@@ -220,7 +220,7 @@ fn decimal_move(b: u8) -> u64
 
 // One byte more of the token t: the token then, 0 where it has ended, or BAD.
 pub(crate) fn token_move(t: u64, b: u8) -> u64
-    ensures { result ≡ tokenMove t b }
+    ensures { result ≡ token_move t b }
 {
     match t {
         0 => BAD,

@@ -107,7 +107,7 @@ pub(crate) fn is_close(b: u8) -> bool
 
 // Past the close of an array or object, from past its opening byte.
 pub(crate) fn skip_open(s: &[u8], at: usize) -> usize
-    ensures { result ≡ skipOpen s.now 1 at }
+    ensures { result ≡ skip_open s.now 1 at }
 {
     let mut i = at;
     let mut n = 1usize;
@@ -180,7 +180,7 @@ pub fn skip_value(s: &[u8], at: usize) -> usize
 
 // Past a comma and blanks, or at the close.
 pub fn next_item(s: &[u8], at: usize) -> usize
-    ensures { result ≡ nextItem s.now at }
+    ensures { result ≡ next_item s.now at }
 {
     let c = Cursor { at: at }.skip_indent(s);
     let k = c.at;
@@ -194,7 +194,7 @@ pub fn next_item(s: &[u8], at: usize) -> usize
 
 // The name of the member of an object at a place.
 pub fn next_name(s: &[u8], at: usize) -> NameStep
-    ensures { result ≡ nameStep s.now at }
+    ensures { result ≡ name_step s.now at }
 {
     let b = peek(s, at);
     if b == b'"' {

@@ -31,7 +31,7 @@ fn is_as_it_is(b: u8) -> bool
 
 fn hex_digit(d: u8) -> u8
     requires { d < 16 }
-    ensures { result ≡ hexDigitOf d }
+    ensures { result ≡ hex_digit_of d }
 {
     if d < 10 {
         return b'0' + d;
@@ -40,7 +40,7 @@ fn hex_digit(d: u8) -> u8
 }
 
 fn byte_length(b: u8) -> usize
-    ensures { result ≡ length (shownByte b) }
+    ensures { result ≡ length (shown_byte b) }
 {
     if is_as_it_is(b) {
         return 1;
@@ -49,9 +49,9 @@ fn byte_length(b: u8) -> usize
 }
 
 fn put_byte(out: &mut [u8], b: u8) -> usize
-    requires { length (shownByte b) ≤ length out.old }
-    ensures count { result ≡ length (shownByte b) }
-    ensures memory { out.new ≡ written (shownByte b) out.old }
+    requires { length (shown_byte b) ≤ length out.old }
+    ensures count { result ≡ length (shown_byte b) }
+    ensures memory { out.new ≡ written (shown_byte b) out.old }
 {
     if is_as_it_is(b) {
         out[0] = b;
@@ -66,7 +66,7 @@ fn put_byte(out: &mut [u8], b: u8) -> usize
 
 // What the text of a string's body in quotes leaves of a room.
 fn quoted_left(raw: &[u8], room: usize) -> Left
-    ensures { result ≡ leftAfter room (length (quoted raw.now)) }
+    ensures { result ≡ left_after room (length (quoted raw.now)) }
 {
     if room < 2 {
         return Left::Over;
@@ -89,9 +89,9 @@ fn quoted_left(raw: &[u8], room: usize) -> Left
 
 // The text of a string's body.
 fn put_shown(out: &mut [u8], raw: &[u8]) -> usize
-    requires { length (flat shownByte (decodedFrom raw.now 0)) ≤ length out.old }
-    ensures count { result ≡ length (flat shownByte (decodedFrom raw.now 0)) }
-    ensures memory { out.new ≡ written (flat shownByte (decodedFrom raw.now 0)) out.old }
+    requires { length (flat shown_byte (decoded_from raw.now 0)) ≤ length out.old }
+    ensures count { result ≡ length (flat shown_byte (decoded_from raw.now 0)) }
+    ensures memory { out.new ≡ written (flat shown_byte (decoded_from raw.now 0)) out.old }
 {
     let mut n: usize = 0;
     let mut p = Position { at: 0, passed: 0 };
@@ -120,7 +120,7 @@ fn put_quoted(out: &mut [u8], raw: &[u8]) -> usize
 
 // What a text leaves of a room.
 pub fn text_left(s: &[u8], p: Place, room: usize) -> Left
-    ensures { result ≡ leftAfter room (length (shownText s.now p)) }
+    ensures { result ≡ left_after room (length (shown_text s.now p)) }
 {
     if listing_labels::is_absent(p) {
         if room < 1 {
@@ -133,9 +133,9 @@ pub fn text_left(s: &[u8], p: Place, room: usize) -> Left
 
 // A text, written to the front of out, which has room.
 fn put_in_room(out: &mut [u8], s: &[u8], p: Place) -> usize
-    requires { length (shownText s.now p) ≤ length out.old }
-    ensures count { result ≡ length (shownText s.now p) }
-    ensures memory { out.new ≡ written (shownText s.now p) out.old }
+    requires { length (shown_text s.now p) ≤ length out.old }
+    ensures count { result ≡ length (shown_text s.now p) }
+    ensures memory { out.new ≡ written (shown_text s.now p) out.old }
 {
     if listing_labels::is_absent(p) {
         out[0] = b'-';
@@ -146,8 +146,8 @@ fn put_in_room(out: &mut [u8], s: &[u8], p: Place) -> usize
 
 // A text, written to the front of out if it fits; how many bytes were written.
 pub fn put_text(out: &mut [u8], s: &[u8], p: Place) -> usize
-    ensures count { result ≡ putCount (shownText s.now p) out.old }
-    ensures memory { out.new ≡ putFront (shownText s.now p) out.old }
+    ensures count { result ≡ put_count (shown_text s.now p) out.old }
+    ensures memory { out.new ≡ put_front (shown_text s.now p) out.old }
 {
     let g = text_left(s, p, out.len());
     let Left::Bytes(left) = g else {

@@ -79,7 +79,7 @@ pub fn has_type(wanted: FieldType, part: &[u8]) -> bool
 }
 
 pub(crate) fn is_uint(part: &[u8]) -> bool
-    ensures { result ≡ isUint part.now }
+    ensures { result ≡ is_uint part.now }
 {
     let u = uint(part);
     match u {
@@ -90,7 +90,7 @@ pub(crate) fn is_uint(part: &[u8]) -> bool
 
 // The first byte of a number.
 pub(crate) fn is_number(b: u8) -> bool
-    ensures { result ≡ numberByte b }
+    ensures { result ≡ number_byte b }
 {
     if b == b'-' {
         return true;
@@ -100,7 +100,7 @@ pub(crate) fn is_number(b: u8) -> bool
 
 // The first byte of true or false.
 pub(crate) fn is_boolean(b: u8) -> bool
-    ensures { result ≡ booleanByte b }
+    ensures { result ≡ boolean_byte b }
 {
     if b == b't' {
         return true;
@@ -110,7 +110,7 @@ pub(crate) fn is_boolean(b: u8) -> bool
 
 // A boolean is true.
 pub fn is_true(part: &[u8]) -> bool
-    ensures { result ≡ isTrue part.now }
+    ensures { result ≡ is_true part.now }
 {
     peek(part, 0) == b't'
 }
