@@ -1,0 +1,15 @@
+use borrow.Author.Rules.{rules}
+use native.Mathlib.Omega.{arith}
+use lib.ListN.{length}
+use Prim.Native.Nat.{◌-◌, ◌+◌}
+use mathlib.Core.Path.{◌≡◌, refl, sym, ◌∙◌}
+use borrow.Author.Tests.{leb-true}
+use Rattle.json_blocks.specs.TextBytes.{skip_blanks}
+use Rattle.json_blocks.proofs.BlockLaws.{spaces_pass}
+use Rattle.json_blocks.proofs.blocks.skip_spaces.Given as goal
+
+abbrev pub invariant-loop-i : goal.invariant-loop-i
+invariant-loop-i l = skip_blanks l.s l.i ≡ skip_blanks l.s l.initial.i
+
+abbrev pub decreases-loop-i : goal.decreases-loop-i
+decreases-loop-i l = length l.s - l.i
