@@ -1,0 +1,17 @@
+use borrow.Author.Rules.{rules}
+use native.Mathlib.Omega.{arith}
+use Prim.Native.Nat.{◌≤◌, ◌-◌, ◌+◌}
+use mathlib.Core.Path.{◌≡◌, ap, ◌∙◌}
+use mathlib.Core.Bool.{Bool, ◌&&◌}
+use Rattle.json_blocks.specs.Blocks.{plain_byte, all_at}
+use Rattle.json_blocks.proofs.BlockLaws.{all_start, all_on, all_end}
+use Rattle.json_characters.proofs.plain.are_plain.Goals as goal
+
+pub loop-k-init : goal.loop-k-init
+loop-k-init c = (omega arith, all_start plain_byte c.args.s.now c.args.i 8)
+
+pub loop-k-preserved : goal.loop-k-preserved
+loop-k-preserved c = (omega arith, all_on plain_byte c.args.s.now c.args.i 8 c.loop-k.k c.loop-k-test.true c.loop-k.ok c.both-ok.result (c.both-ok.ensures ∙ ap (λ (b : Bool). c.loop-k.ok && b) c.is_plain-e.ensures) ∙ c.loop-k.invariant.1)
+
+pub returns : goal.returns
+returns c = all_end plain_byte c.args.s.now c.args.i 8 c.loop-k.k c.loop-k-test.false c.loop-k.ok ∙ c.loop-k.invariant.1

@@ -1,0 +1,14 @@
+use borrow.Author.Rules.{rules}
+use native.Mathlib.Omega.{arith}
+use Prim.Native.Nat.{◌≤◌, ◌-◌, ◌+◌}
+use mathlib.Core.Path.{◌≡◌, ap, ◌∙◌}
+use mathlib.Core.Bool.{Bool, ◌&&◌}
+use Rattle.json_blocks.specs.Blocks.{plain_byte, all_at}
+use Rattle.json_blocks.proofs.BlockLaws.{all_start, all_on, all_end}
+use Rattle.json_characters.proofs.plain.are_plain.Given as goal
+
+abbrev pub invariant-loop-k : goal.invariant-loop-k
+invariant-loop-k l = (l.k ≤ 8) × ((l.ok && all_at plain_byte (8 - l.k) l.s (l.i + l.k)) ≡ all_at plain_byte 8 l.s l.i)
+
+abbrev pub decreases-loop-k : goal.decreases-loop-k
+decreases-loop-k l = 8 - l.k

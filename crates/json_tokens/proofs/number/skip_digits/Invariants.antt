@@ -1,0 +1,15 @@
+use borrow.Author.Rules.{rules}
+use native.Mathlib.Omega.{arith}
+use lib.ListN.{length}
+use Prim.Native.Nat.{◌-◌}
+use mathlib.Core.Path.{◌≡◌, refl, sym, ◌∙◌}
+use Rattle.json_tokens.specs.Number.{digit, skip_digits}
+use Rattle.json_blocks.proofs.ByteLaws.{good_inside, skip_on, skip_out}
+use Rattle.json_tokens.proofs.NumberLaws.{no_digit}
+use Rattle.json_tokens.proofs.number.skip_digits.Given as goal
+
+abbrev pub invariant-loop-i : goal.invariant-loop-i
+invariant-loop-i l = skip_digits l.s l.i ≡ skip_digits l.s l.initial.i
+
+abbrev pub decreases-loop-i : goal.decreases-loop-i
+decreases-loop-i l = length l.s - l.i
