@@ -27,7 +27,7 @@ module _ (s : List ℕ) (cs : List Core) (i : ℕ) (P : Option Value → Type 0)
   pub values_hold : (z : Option Value) (ms : List Member) → P z → Each Q ms → mistyped cs (map (field_of s) ms) ≡ false → P (value_from cs i z (map (field_of s) ms))
   unfolding mistyped last_where
   values_hold z [] h nothing t = h
-  values_hold z (m ∷ ms) h (next q qs) t = values_hold _ ms (go (eqb (number_in cs (field_of s m)) i) refl) qs (or_right bad (mistyped cs (map (field_of s) ms)) t)
+  values_hold z (m ∷ ms) h (next q qs) t = values_hold (cond (eqb (number_in cs (field_of s m)) i) (some (field_of s m).value) z) ms (go (eqb (number_in cs (field_of s m)) i) refl) qs (or_right bad (mistyped cs (map (field_of s) ms)) t)
     where
       bad : Bool
       bad = not (has_type (type_at cs (number_in cs (field_of s m))) (member_value s m))

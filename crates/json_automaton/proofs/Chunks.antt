@@ -12,14 +12,14 @@ use Rattle.refusals.specs.Refusals.{lowest}
 use Rattle.json_grammar.specs.ByPlace.{is_json}
 use Rattle.json_automaton.specs.declared.Control.{Control}
 use Rattle.json_automaton.specs.declared.State.{State}
-use Rattle.json_automaton.specs.Control.{run_moves, accepting}
+use Rattle.json_automaton.specs.Control.{move, run_moves, accepting}
 use Rattle.json_automaton.specs.State.{state, control_of, fresh, too_long, fed, joined_rules}
 use Rattle.json_automaton.proofs.Values.{accepts_json}
 
 pub run_append : (c : Control) (a b : List ℕ) → run_moves c (a ++ b) ≡ run_moves (run_moves c a) b
 unfolding run_moves
 run_append c [] b = refl
-run_append c (x ∷ a) b = run_append _ a b
+run_append c (x ∷ a) b = run_append (move c x) a b
 
 module _ (st : State) (s : List ℕ) where
   pub fed_within : st.count + length s ≤ metadata → fed st s ≡ state (run_moves (control_of st) s) (st.count + length s)

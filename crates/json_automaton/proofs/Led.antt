@@ -188,7 +188,7 @@ led_move {n} b (at_after {t} {o} i l m h) =
 led_from : {n : ℕ} {c : Control} (s : List ℕ) → Led n c → Led (n + length s) (run_moves c s)
 unfolding run_moves
 led_from {n} {c} [] h = subst (λ (k : ℕ). Led k c) (omega arith) h
-led_from {n} {c} (b ∷ s) h = subst (λ (k : ℕ). Led k (run_moves (move c b) s)) (omega arith) (led_from s (led_move b h))
+led_from {n} {c} (b ∷ s) h = subst (λ (k : ℕ). Led k (run_moves (move c b) s)) (omega arith) (led_from {n = n + 1} {c = move c b} s (led_move b h))
 
 led_start : Led 0 start
 unfolding in_object opened_in extra

@@ -354,7 +354,7 @@ characters_complete : {s : List ℕ} {i k : ℕ} {cs : List ℕ} → Characters 
 characters_complete {s} {i} {k} no_characters q e = rw (stands_nil q) (sym (string_close s k (byte s k) refl e))
 characters_complete {s} {i} (characters {c} {cs} p r) q e =
     let f = character_complete p (stands_left s c cs q) in
-    sym (string_on s i (byte s i) refl f.inner (character_at s i) refl (record { at = i + length c }) f.reads) ∙ characters_complete r (stands_right s c cs q) e
+    sym (string_on s i (byte s i) refl f.inner (character_at s i) refl (record { at = i + length c }) f.reads) ∙ characters_complete {i = i + length c} r (stands_right s c cs q) e
 
 -- a string starts with a quote and is read from past it, whatever follows
 pub string_complete : {s : List ℕ} {i j : ℕ} {x : List ℕ} → String x → Stands s i x j → (byte s i ≡ 0x22) × (string_at s (i + 1) ≡ to j)

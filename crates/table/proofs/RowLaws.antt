@@ -1,6 +1,6 @@
 -- Laws of rows in flat memory.
 use Prim.Native.Nat.{ℕ, zero, suc, ◌+◌, ◌-◌, ◌*◌, ◌/◌, ◌≤◌, ◌<◌}
-use mathlib.Core.Path.{◌≡◌, refl, sym, ap, ◌∙◌}
+use mathlib.Core.Path.{◌≡◌, refl, sym, ap, subst, ◌∙◌}
 use mathlib.Core.Bool.{Bool, true, false, cond}
 use mathlib.Core.List.{List, [], ◌∷◌, ◌++◌, append_assoc}
 use native.Mathlib.Omega.{arith}
@@ -137,7 +137,9 @@ module _ {A : Type 0} (w : ℕ) (of : List ℕ → A) (numbers : A → List ℕ)
   pub rows_back : (rs : List A) (m : List ℕ) → rows_from (reads (flat numbers rs ++ m)) (length rs) 0 ≡ rs
   unfolding rows_from flat
   rows_back [] m = refl
-  rows_back (r ∷ t) m = rw (append_assoc (numbers r) (flat numbers t) m, first_row r (flat numbers t ++ m), later_rows r (flat numbers t ++ m) (length t) 0, rows_back t m)
+  rows_back (r ∷ t) m =
+      let a : flat numbers (r ∷ t) ++ m ≡ numbers r ++ (flat numbers t ++ m) = append_assoc (numbers r) (flat numbers t) m in
+      subst (λ (x : List ℕ). rows_from (reads x) (suc (length t)) 0 ≡ r ∷ t) (sym a) (rw (first_row r (flat numbers t ++ m), later_rows r (flat numbers t ++ m) (length t) 0, rows_back t m))
 
 pub captures_back : (rs : List Capture) (m : List ℕ) → captures (flat capture_numbers rs ++ m) (length rs) ≡ rs
 unfolding capture_at
