@@ -36,7 +36,7 @@ use Rattle.claims_derived.proofs.FieldRules.{Typed, value_is, array_extensions, 
 found_tally : (p : List ℕ) (t : Tally) (ms : List Span) → X.tally_from p t ms ≡ tallied t (map (X.class_of p) ms)
 unfolding X.tally_from tallied
 found_tally p t [] = refl
-found_tally p t (m ∷ ms) = found_tally p _ ms
+found_tally p t (m ∷ ms) = found_tally p (X.counted t (X.class_of p m)) ms
 
 class_same : (p : List ℕ) (d : ℕ) (m : Span) (e : Entry) → SameMember p d m e → X.class_of p m ≡ class_of e
 unfolding X.class_of

@@ -62,7 +62,7 @@ module _ (cs : List Core) (i : ℕ) (name : String) (a : At cs i name) where
   value_from_lem : (z : Option Node) (es : List Entry) → O.value_from cs i (as_value z) (map field es) ≡ as_value (value_from (ascii name) z es)
   unfolding O.last_where value_from
   value_from_lem z [] = refl
-  value_from_lem z (e ∷ es) = ap (λ (w : Option O.Value). O.value_from cs i w (map field es)) (cond_as (a e.name) e.node z) ∙ value_from_lem _ es
+  value_from_lem z (e ∷ es) = ap (λ (w : Option O.Value). O.value_from cs i w (map field es)) (cond_as (a e.name) e.node z) ∙ value_from_lem (cond (same e.name (ascii name)) (some e.node) z) es
 
   pub value_is : (es : List Entry) → O.value_in cs i (map field es) ≡ as_value (value name es)
   value_is es = value_from_lem none es
@@ -142,7 +142,7 @@ module _ (cs : List Core) (i : ℕ) (name : String) (a : At cs i name) where
   typed_from : (z : Option Node) (es : List Entry) → Typed (type_at cs i) z → mistyped cs es ≡ false → Typed (type_at cs i) (value_from (ascii name) z es)
   unfolding value_from mistyped any
   typed_from z [] h e = h
-  typed_from z (x ∷ es) h e = typed_from _ es (go (same x.name (ascii name)) refl) (or_right bad (mistyped cs es) e) where
+  typed_from z (x ∷ es) h e = typed_from (cond (same x.name (ascii name)) (some x.node) z) es (go (same x.name (ascii name)) refl) (or_right bad (mistyped cs es) e) where
     bad : Bool
     bad = not (is_a (type_at cs (index_in core_name cs x.name)) (kind x.node))
 

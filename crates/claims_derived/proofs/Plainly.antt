@@ -145,7 +145,7 @@ module _ {A : Type 0} (name : String) (f : Option A → Tag → Option A) (g : N
   last_is : (z : Option Node) (es : List Entry) → mapped g (value_from (ascii name) z es) ≡ last_in f (mapped g z) (map tag_of es)
   unfolding value_from last_in
   last_is z [] = refl
-  last_is z (e ∷ es) = last_is _ es ∙ ap (λ (w : Option A). last_in f w (map tag_of es)) (one e z)
+  last_is z (e ∷ es) = last_is (cond (same e.name (ascii name)) (some e.node) z) es ∙ ap (λ (w : Option A). last_in f w (map tag_of es)) (one e z)
 
 -- the three names differ
 differ : (x : List ℕ) (m n : String) → same (ascii m) (ascii n) ≡ false → same x (ascii m) ≡ true → same x (ascii n) ≡ false

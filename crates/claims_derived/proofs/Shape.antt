@@ -83,7 +83,7 @@ cond_as false n z = refl
 pub named_as : (x : List ℕ) (z : Option Node) (es : List Entry) → named_from x (as_value z) (map field es) ≡ as_value (value_from x z es)
 unfolding O.last_where value_from
 named_as x z [] = refl
-named_as x z (e ∷ es) = ap (λ (w : Option O.Value). named_from x w (map field es)) (cond_as (same e.name x) e.node z) ∙ named_as x _ es
+named_as x z (e ∷ es) = ap (λ (w : Option O.Value). named_from x w (map field es)) (cond_as (same e.name x) e.node z) ∙ named_as x (cond (same e.name x) (some e.node) z) es
 
 -- a node that is found stands in the text
 abbrev pub Found : List ℕ → Option Node → Type 0
@@ -93,7 +93,7 @@ Found s (some n) = Here s n
 pub found : {s : List ℕ} {d : ℕ} (x : List ℕ) (z : Option Node) {ms : List Span} {es : List Entry} → Found s z → Both (SameMember s d) ms es → Found s (value_from x z es)
 unfolding value_from
 found x z h nothing = h
-found {s} x z h (next {b = e} r rs) = found x _ (go (same e.name x)) rs where
+found {s} x z h (next {b = e} r rs) = found x (cond (same e.name x) (some e.node) z) (go (same e.name x)) rs where
   go : (t : Bool) → Found s (cond t (some e.node) z)
   go true = r.stands
   go false = h

@@ -1,0 +1,15 @@
+use native.Mathlib.Omega.{arith}
+use lib.ListN.{length, get_or, drop}
+use Prim.Native.Nat.{ℕ, ◌≤◌, ◌<◌, ◌-◌, ◌+◌, ◌*◌}
+use mathlib.Core.Path.{◌≡◌, refl, sym, ap, ◌∙◌}
+use mathlib.Core.Path.{◌≡◌, refl, sym, ◌∙◌}
+use Rattle.json_strings.proofs.StepLaws.{part_byte, part_over}
+use borrow.Author.Rules.{rules}
+use Rattle.json_strings.proofs.characters.raw_or_zero.Lts as lts
+use Rattle.json_strings.proofs.characters.raw_or_zero.Goals as goal
+
+pub returns-then-n-k : goal.returns-then-n-k
+returns-then-n-k c = part_over c.args.s.now c.args.at c.args.n c.args.k c.if-n-k.true
+
+pub returns : goal.returns
+returns c = c.peek.ensures ∙ part_byte c.args.s.now c.args.at c.args.n c.args.k c.if-n-k.false
