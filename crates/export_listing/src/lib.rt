@@ -11,7 +11,7 @@ use table::{Place, Summary, Wrote};
 
 // A label: 1 if there is one and 0 if not, and its place and length in the metadata, or why there is none.
 #[repr(C)]
-#[derive(Drop)]
+#[derive(Clone, Copy)]
 pub struct Labelled {
     pub refusal: u64,
     pub present: u64,

@@ -5,7 +5,7 @@ ghost use Rattle.std.specs.Prelude.{◌≡◌, drop};
 ghost use Rattle.first_line.specs.FirstLine.{first_line, line_says};
 
 // The dataset's length and the place past the line feed, or that the line has another form.
-#[derive(Drop)]
+#[derive(Clone, Copy)]
 pub enum FirstLine {
     Size(u64, usize),
     Other,

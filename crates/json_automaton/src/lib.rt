@@ -4,7 +4,7 @@
 use limits::Limits;
 
 // What may stand next, how far inside a token the text ended, and the brackets that are open.
-#[derive(Drop)]
+#[derive(Clone, Copy)]
 pub struct Control {
     pub place: u64,
     pub token: u64,
@@ -32,7 +32,7 @@ impl Control {
 
 // The same, and how many bytes there were.
 #[repr(C)]
-#[derive(Drop)]
+#[derive(Clone, Copy)]
 pub struct State {
     pub place: u64,
     pub token: u64,

@@ -11,20 +11,20 @@ ghost use Rattle.json_blocks.specs.TextBytes.{within, blank, skip_blanks, litera
 use crate::blocks::skip_spaces;
 
 // A place in a text.
-#[derive(Drop)]
+#[derive(Clone, Copy)]
 pub struct Cursor {
     pub at: usize,
 }
 
 // Where a token ends, or that none stands there.
-#[derive(Drop)]
+#[derive(Clone, Copy)]
 pub enum Read {
     To(Cursor),
     Bad,
 }
 
 // What stands after an item of an array or object: a comma and then an item, or the close.
-#[derive(Drop)]
+#[derive(Clone, Copy)]
 pub enum After {
     Item(Cursor),
     Close(Cursor),

@@ -12,7 +12,7 @@ use json_blocks::{Cursor, Read, code_within, is_within, peek};
 pub use plain::skip_plain_bytes;
 
 // The number of four hexadecimal digits and where they end, or that there are none.
-#[derive(Drop)]
+#[derive(Clone, Copy)]
 pub enum Hex4 {
     Code(usize, Cursor),
     Bad,

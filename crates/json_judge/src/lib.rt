@@ -12,7 +12,7 @@ use crate::values::judge_with;
 use limits::Limits;
 
 // A text is good, or no JSON nested to the limit, or has an object with a name twice or too many members.
-#[derive(Drop)]
+#[derive(Clone, Copy)]
 pub enum Judged {
     Good,
     NotJson,
@@ -20,21 +20,21 @@ pub enum Judged {
 }
 
 // A value ends at the cursor, and whether some object in it has a name twice or too many members; or there is no value.
-#[derive(Drop)]
+#[derive(Clone, Copy)]
 pub enum Scan {
     To(json_blocks::Cursor, bool),
     Bad,
 }
 
 // The key to keep for a name that is new in its object, or that the name is known there.
-#[derive(Drop)]
+#[derive(Clone, Copy)]
 pub enum Fresh {
     Key(u32),
     Known,
 }
 
 // How many names of an object are kept, and whether the object, or one in it, has a name twice or too many members.
-#[derive(Drop)]
+#[derive(Clone, Copy)]
 pub struct Names {
     pub count: usize,
     pub bad: bool,

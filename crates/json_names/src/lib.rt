@@ -17,21 +17,21 @@ use json_strings::{Position, Stream, next_byte};
 pub use plain::keyed_string;
 
 // Where a string ends, and its key; or that there is none.
-#[derive(Drop)]
+#[derive(Clone, Copy)]
 pub enum Keyed {
     To(Cursor, u32),
     Bad,
 }
 
 // Past the plain bytes at the beginning of a string, with the key so far.
-#[derive(Drop)]
+#[derive(Clone, Copy)]
 pub struct Run {
     pub at: usize,
     pub key: u64,
 }
 
 // A place in each of two texts.
-#[derive(Drop)]
+#[derive(Clone, Copy)]
 pub struct Places {
     pub a: usize,
     pub b: usize,

@@ -14,7 +14,7 @@ use json_characters::string;
 const BLOCK: usize = 8;
 
 // Bytes of a block: whether all are plain, and the key with them.
-#[derive(Drop)]
+#[derive(Clone, Copy)]
 struct Block {
     plain: bool,
     key: u64,

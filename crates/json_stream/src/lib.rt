@@ -16,7 +16,7 @@ use limits::Limits;
 
 // A refusal, or 0 with the state after a chunk and whether the text is lost: 1, or 0 for open.
 #[repr(C)]
-#[derive(Drop)]
+#[derive(Clone, Copy)]
 pub struct Fed {
     pub refusal: u64,
     pub lost: u64,

@@ -16,28 +16,28 @@ use json_blocks::{Cursor, Read, code_within, peek};
 use json_characters::{Hex4, character, four_digits, skip_plain_bytes};
 
 // What stands at a place of a string: a byte for itself, or an escape: its code point, and the place past it.
-#[derive(Drop)]
+#[derive(Clone, Copy)]
 pub enum Unit {
     Byte,
     Escape(usize, usize),
 }
 
 // A place in a string's decoded text: the place of a unit, and how many of the bytes that it stands for are passed.
-#[derive(Drop)]
+#[derive(Clone, Copy)]
 pub struct Position {
     pub at: usize,
     pub passed: usize,
 }
 
 // The next decoded byte, and the position past it.
-#[derive(Drop)]
+#[derive(Clone, Copy)]
 pub enum Stream {
     Next(u8, Position),
     End,
 }
 
 // The next character: the first len of the bytes are its UTF-8, and it ends before at; no bytes where the string ends.
-#[derive(Drop)]
+#[derive(Clone, Copy)]
 pub struct Step {
     pub bytes: [u8; 4],
     pub len: usize,

@@ -10,7 +10,7 @@ use json_blocks::blocks::is_ordinary_block;
 use json_blocks::{Cursor, Read, is_blank, peek};
 
 // A member of an object: the places of its raw name between the quotes, of the closing quote, of its value, and past that.
-#[derive(Drop)]
+#[derive(Clone, Copy)]
 pub struct Member {
     pub name: usize,
     pub quote: usize,
@@ -19,7 +19,7 @@ pub struct Member {
 }
 
 // A member's name: its raw bytes' place, that of its closing quote, and that of the value.
-#[derive(Drop)]
+#[derive(Clone, Copy)]
 pub struct MemberName {
     pub name: usize,
     pub quote: usize,
@@ -27,28 +27,28 @@ pub struct MemberName {
 }
 
 // An element of an array: its place, and the one past it.
-#[derive(Drop)]
+#[derive(Clone, Copy)]
 pub struct Element {
     pub at: usize,
     pub end: usize,
 }
 
 // The member at a place, and where the next one, or the close, stands.
-#[derive(Drop)]
+#[derive(Clone, Copy)]
 pub enum MemberStep {
     Found(Member, usize),
     End,
 }
 
 // The name of the member at a place.
-#[derive(Drop)]
+#[derive(Clone, Copy)]
 pub enum NameStep {
     Found(MemberName),
     End,
 }
 
 // The element at a place, and where the next one, or the close, stands.
-#[derive(Drop)]
+#[derive(Clone, Copy)]
 pub enum ElementStep {
     Found(Element, usize),
     End,

@@ -6,7 +6,7 @@ ghost use Rattle.sigmf_datatypes.specs.Datatypes.{datatype_name};
 ghost use Rattle.output.specs.Put.{put_count, put_front};
 
 // How many bytes of a room are left, or that it is too small.
-#[derive(Drop)]
+#[derive(Clone, Copy)]
 pub enum Left {
     Bytes(usize),
     Over,

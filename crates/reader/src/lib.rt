@@ -16,7 +16,7 @@ use reader_layout::lay;
 use table::{AnnotationEntry, CaptureEntry, Globals, Summary, no_table};
 
 // The places of the top level's members; 0 stands for none.
-#[derive(Drop)]
+#[derive(Clone, Copy)]
 pub(crate) struct TopPlaces {
     pub(crate) global: usize,
     pub(crate) captures: usize,
@@ -24,28 +24,28 @@ pub(crate) struct TopPlaces {
 }
 
 // What an array holds.
-#[derive(Drop)]
+#[derive(Clone, Copy)]
 pub(crate) enum Kind {
     Capture,
     Annotation,
 }
 
 // The lowest number that an object gives cause for, 0 for none, and where its closing brace stands.
-#[derive(Drop)]
+#[derive(Clone, Copy)]
 pub(crate) struct ObjectRead {
     pub(crate) low: u64,
     pub(crate) close: usize,
 }
 
 // The same of an element of an array, and the place past it.
-#[derive(Drop)]
+#[derive(Clone, Copy)]
 pub(crate) struct ElementRead {
     pub(crate) low: u64,
     pub(crate) end: usize,
 }
 
 // The same of a whole array, and how many elements it has.
-#[derive(Drop)]
+#[derive(Clone, Copy)]
 pub(crate) struct ArrayRead {
     pub(crate) low: u64,
     pub(crate) count: usize,
@@ -53,7 +53,7 @@ pub(crate) struct ArrayRead {
 }
 
 // The same of the global object, and what it says.
-#[derive(Drop)]
+#[derive(Clone, Copy)]
 pub(crate) struct GlobalRead {
     pub(crate) low: u64,
     pub(crate) globals: Globals,
@@ -61,7 +61,7 @@ pub(crate) struct GlobalRead {
 }
 
 // The names of the top level.
-#[derive(Drop)]
+#[derive(Clone, Copy)]
 pub(crate) enum TopName {
     Global,
     Captures,
@@ -70,7 +70,7 @@ pub(crate) enum TopName {
 }
 
 // The members of the top level that were read so far: the places of the three, and what was read there.
-#[derive(Drop)]
+#[derive(Clone, Copy)]
 pub(crate) struct TopRead {
     pub(crate) places: TopPlaces,
     pub(crate) global: GlobalRead,
@@ -79,14 +79,14 @@ pub(crate) struct TopRead {
 }
 
 // The same after one member more, and the place past its value.
-#[derive(Drop)]
+#[derive(Clone, Copy)]
 pub(crate) struct TopStep {
     pub(crate) top: TopRead,
     pub(crate) end: usize,
 }
 
 // The lowest of 4 to 14 that the parts of a text give cause for, 0 for none; what they say, with how many entries are kept.
-#[derive(Drop)]
+#[derive(Clone, Copy)]
 pub(crate) struct Scanned {
     pub(crate) low: u64,
     pub(crate) globals: Globals,

@@ -18,7 +18,7 @@ use table::{
 };
 
 // The samples that a dataset holds, if they are whole.
-#[derive(Drop)]
+#[derive(Clone, Copy)]
 struct Whole {
     ok: bool,
     samples: u64,

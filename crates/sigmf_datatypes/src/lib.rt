@@ -8,7 +8,7 @@ ghost use Rattle.sigmf_datatypes.specs.Entry.{entry_of};
 use limits::Limits;
 
 // A row of the table: the name's bytes from the front, how many they are, the bytes of a component, complex or not.
-#[derive(Drop)]
+#[derive(Clone, Copy)]
 struct Entry {
     name: [u8; 8],
     chars: usize,
@@ -17,7 +17,7 @@ struct Entry {
 }
 
 // The list of datatypes.
-#[derive(Drop)]
+#[derive(Clone, Copy)]
 pub struct Datatypes {}
 
 impl Datatypes {

@@ -5,7 +5,7 @@ pub mod entries;
 pub mod entry;
 
 // What a member of an extension entry is.
-#[derive(Drop)]
+#[derive(Clone, Copy)]
 pub enum EntryMember {
     Name,
     Version,
@@ -15,7 +15,7 @@ pub enum EntryMember {
 }
 
 // How many members of each class an extension entry has.
-#[derive(Drop)]
+#[derive(Clone, Copy)]
 pub struct Tally {
     pub names: u64,
     pub versions: u64,
@@ -25,7 +25,7 @@ pub struct Tally {
 }
 
 // What an extension entry is: well formed, with an extension that is needed or may be ignored, or not well formed.
-#[derive(Drop)]
+#[derive(Clone, Copy)]
 pub enum Extension {
     Needed,
     Ignored,

@@ -6,7 +6,7 @@ mod lookup;
 pub mod names;
 
 // The kinds of object that have core fields.
-#[derive(Drop)]
+#[derive(Clone, Copy)]
 pub enum Object {
     Global,
     Capture,
@@ -15,14 +15,14 @@ pub enum Object {
 
 // The number of the field with a name, or how many fields there are, and how many names were compared with it byte for byte.
 #[repr(C)]
-#[derive(Drop)]
+#[derive(Clone, Copy)]
 pub struct NameLookup {
     pub number: usize,
     pub compared: usize,
 }
 
 // The numbers of the global object's fields whose values are read, and how many fields there are.
-#[derive(Drop)]
+#[derive(Clone, Copy)]
 pub struct GlobalField {}
 
 impl GlobalField {
@@ -48,7 +48,7 @@ impl GlobalField {
 }
 
 // The same of a capture.
-#[derive(Drop)]
+#[derive(Clone, Copy)]
 pub struct CaptureField {}
 
 impl CaptureField {
@@ -62,7 +62,7 @@ impl CaptureField {
 }
 
 // The same of an annotation.
-#[derive(Drop)]
+#[derive(Clone, Copy)]
 pub struct AnnotationField {}
 
 impl AnnotationField {

@@ -10,7 +10,7 @@ mod walk;
 use table::{AnnotationEntry, CaptureEntry, Globals};
 
 // The lowest number that the global object gives cause for, 0 for none; what it says; where its closing brace stands.
-#[derive(Drop)]
+#[derive(Clone, Copy)]
 pub struct GlobalFound {
     pub low: u64,
     pub globals: Globals,
@@ -18,7 +18,7 @@ pub struct GlobalFound {
 }
 
 // The same of a capture.
-#[derive(Drop)]
+#[derive(Clone, Copy)]
 pub struct CaptureFound {
     pub low: u64,
     pub entry: CaptureEntry,
@@ -26,7 +26,7 @@ pub struct CaptureFound {
 }
 
 // The same of an annotation.
-#[derive(Drop)]
+#[derive(Clone, Copy)]
 pub struct AnnotationFound {
     pub low: u64,
     pub entry: AnnotationEntry,

@@ -17,14 +17,14 @@ use sigmf_values::value::{has_type, part_of, uint};
 use sigmf_values::{FieldType, Uint};
 
 // The lower of 5 and 7 that the members give cause for, 0 for none, and where they end.
-#[derive(Drop)]
+#[derive(Clone, Copy)]
 pub(crate) struct Walked {
     pub(crate) low: u64,
     pub(crate) close: usize,
 }
 
 // What one member tells of 5 and 7, and its value's size.
-#[derive(Drop)]
+#[derive(Clone, Copy)]
 struct Sized {
     low: u64,
     size: u64,

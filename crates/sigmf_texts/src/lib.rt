@@ -12,7 +12,7 @@ use json_strings::Position;
 use sigmf_datatypes::{is_listed, name, name_length};
 
 // Where the part after the colon of a name begins; or that the name has another form.
-#[derive(Drop)]
+#[derive(Clone, Copy)]
 pub enum NameForm {
     After(Position),
     Bad,

@@ -4,14 +4,14 @@
 pub mod value;
 
 // A uint's value, or that there is none.
-#[derive(Drop)]
+#[derive(Clone, Copy)]
 pub enum Uint {
     Value(u64),
     Bad,
 }
 
 // The types of core fields.
-#[derive(Drop)]
+#[derive(Clone, Copy)]
 pub enum FieldType {
     Text,
     Uint,

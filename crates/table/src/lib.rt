@@ -17,21 +17,21 @@ use limits::Limits;
 
 // Where a text stands in the metadata, and how many bytes it has; 0, 0 if it is absent.
 #[repr(C)]
-#[derive(Drop)]
+#[derive(Clone, Copy)]
 pub struct Place {
     pub at: u64,
     pub len: u64,
 }
 
 // The texts of an annotation: the raw label between its quotes.
-#[derive(Drop)]
+#[derive(Clone, Copy)]
 pub struct Texts {
     pub label: Place,
 }
 
 // The twelve numbers of a table.
 #[repr(C)]
-#[derive(Drop)]
+#[derive(Clone, Copy)]
 pub struct Summary {
     pub refusal: u64,
     pub datatype: u64,
@@ -47,7 +47,7 @@ pub struct Summary {
 }
 
 // A capture's row.
-#[derive(Drop)]
+#[derive(Clone, Copy)]
 pub struct Capture {
     pub start: u64,
     pub end: u64,
@@ -61,7 +61,7 @@ impl Capture {
 }
 
 // An annotation's row.
-#[derive(Drop)]
+#[derive(Clone, Copy)]
 pub struct Annotation {
     pub start: u64,
     pub end: u64,
@@ -74,7 +74,7 @@ impl Annotation {
 }
 
 // What the global object says.
-#[derive(Drop)]
+#[derive(Clone, Copy)]
 pub struct Globals {
     pub datatype: u64,
     pub channels: u64,
@@ -84,7 +84,7 @@ pub struct Globals {
 }
 
 // What a capture says of its samples.
-#[derive(Drop)]
+#[derive(Clone, Copy)]
 pub struct CaptureEntry {
     pub start: u64,
     pub header: u64,
@@ -96,14 +96,14 @@ impl CaptureEntry {
 }
 
 // How many samples an annotation says that it has.
-#[derive(Drop)]
+#[derive(Clone, Copy)]
 pub enum Count {
     Given(u64),
     Absent,
 }
 
 // What an annotation says of its samples, and where its texts stand.
-#[derive(Drop)]
+#[derive(Clone, Copy)]
 pub struct AnnotationEntry {
     pub start: u64,
     pub count: Count,
@@ -117,7 +117,7 @@ impl AnnotationEntry {
 
 // How many pieces or bytes were written, or why none.
 #[repr(C)]
-#[derive(Drop)]
+#[derive(Clone, Copy)]
 pub struct Wrote {
     pub refusal: u64,
     pub count: u64,
@@ -125,14 +125,14 @@ pub struct Wrote {
 
 // Where a sample starts, or why not.
 #[repr(C)]
-#[derive(Drop)]
+#[derive(Clone, Copy)]
 pub struct Located {
     pub refusal: u64,
     pub byte: u64,
 }
 
 // A sum that stayed within its cap, or none.
-#[derive(Drop)]
+#[derive(Clone, Copy)]
 pub(crate) struct Sum {
     pub(crate) ok: bool,
     pub(crate) total: u64,

@@ -14,7 +14,7 @@ ghost use Rattle.table.specs.Table.{own_entries};
 use table::{Capture, Summary, Wrote};
 
 // Samples whose bytes follow each other: the header bytes before them, the sample at which they end, and the first row left then.
-#[derive(Drop)]
+#[derive(Clone, Copy)]
 struct Run {
     headers: u64,
     end: u64,

@@ -1,21 +1,21 @@
 ghost use Rattle.std.specs.Prelude.{◌≡◌};
 
 // The next byte of standard input.
-#[derive(Drop)]
+#[derive(Clone, Copy)]
 pub enum Input {
     Byte(u8),
     End,
 }
 
 // A length, or that no line with one stands there.
-#[derive(Drop)]
+#[derive(Clone, Copy)]
 pub enum Length {
     Of(usize),
     Broken,
 }
 
 // A case's letter and its payload's length; or the input ends before a letter.
-#[derive(Drop)]
+#[derive(Clone, Copy)]
 pub enum Header {
     Case(u8, usize),
     End,

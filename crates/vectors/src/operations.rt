@@ -11,7 +11,7 @@ use table_cuts::cut;
 use table_pieces::{copy, pieces};
 
 // A table's summary and what is asked of it.
-#[derive(Drop)]
+#[derive(Clone, Copy)]
 pub struct Case {
     pub t: Summary,
     pub a: u64,

@@ -18,7 +18,7 @@ const BYTES: usize = 4096;
 const STEPS: usize = 64;
 
 // What a step asks, and the sizes of the memory lent to it.
-#[derive(Drop)]
+#[derive(Clone, Copy)]
 pub struct Step {
     pub a: u64,
     pub b: u64,
@@ -28,7 +28,7 @@ pub struct Step {
 }
 
 // The summary of the table that a step leaves, and its refusal.
-#[derive(Drop)]
+#[derive(Clone, Copy)]
 pub struct Stepped {
     pub t: Summary,
     pub refusal: u64,

@@ -11,7 +11,7 @@ use json_stream::{Fed, feed, finish, fresh};
 const BYTES: usize = 65536;
 
 // The last answer, and the checksum of all.
-#[derive(Drop)]
+#[derive(Clone, Copy)]
 pub struct Run {
     pub last: Fed,
     pub hash: u64,

@@ -2,7 +2,7 @@ use crate::print::two;
 use json_strings::{Position, Stream, next_byte};
 
 // How many things were counted, and the checksum of their numbers.
-#[derive(Drop)]
+#[derive(Clone, Copy)]
 pub struct Sum {
     pub count: u64,
     pub hash: u64,

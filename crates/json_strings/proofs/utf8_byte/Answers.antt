@@ -10,4 +10,4 @@ pub returns-then-k-eq0 : goal.returns-then-k-eq0
 returns-then-k-eq0 c = c.utf8_first.ensures ∙ ap (λ (i : ℕ). get_or (utf8 c.args.p) i 0) (sym c.if-k-eq0.true)
 
 pub returns : goal.returns
-returns c = c.utf8_later.ensures ∙ byte_later _ _ _ c.requires.1.0 c.requires.1.1 c.if-k-eq0.false
+returns c = c.utf8_later.ensures ∙ byte_later _ _ _ c.requires.n_value c.requires.k_lt_n c.if-k-eq0.false

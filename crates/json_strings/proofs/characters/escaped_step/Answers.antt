@@ -16,13 +16,13 @@ use Rattle.json_strings.proofs.characters.escaped_step.Lts as lts
 use Rattle.json_strings.proofs.characters.escaped_step.Goals as goal
 
 pub returns-in_default : goal.returns-in_default
-returns-in_default c = c.byte_step.ensures ∙ ap (λ (b : ℕ). step_of (b ∷ []) (c.args.at + 1)) (sym c.requires.0) ∙ step_unit c.args.s.now c.args.at c.requires.1 c.requires.0 _ c.escape_unit-u.ensures Byte c.in_default.is
+returns-in_default c = c.byte_step.ensures ∙ ap (λ (b : ℕ). step_of (b ∷ []) (c.args.at + 1)) (sym c.requires.at_value) ∙ step_unit c.args.s.now c.args.at c.requires.at_in_bounds c.requires.at_value _ c.escape_unit-u.ensures Byte c.in_default.is
 
 pub code_step-requires : goal.code_step-requires
 code_step-requires c =
     unit_point _ _ _ _
-    (unit_escape _ _ c.requires.1 c.requires.0 _ c.escape_unit-u.ensures
+    (unit_escape _ _ c.requires.at_in_bounds c.requires.at_value _ c.escape_unit-u.ensures
     ∙ c.in-Escape.is)
 
 pub returns : goal.returns
-returns c = c.code_step.ensures ∙ step_unit c.args.s.now c.args.at c.requires.1 c.requires.0 _ c.escape_unit-u.ensures (Escape _ _) c.in-Escape.is
+returns c = c.code_step.ensures ∙ step_unit c.args.s.now c.args.at c.requires.at_in_bounds c.requires.at_value _ c.escape_unit-u.ensures (Escape _ _) c.in-Escape.is

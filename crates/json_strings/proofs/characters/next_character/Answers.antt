@@ -18,7 +18,9 @@ pub returns-in_default : goal.returns-in_default
 returns-in_default c = c.byte_step.ensures ∙ step_raw_lem c.args.s.now c.args.at c.if-at-s.true c.if-b-eq92.false c.if-b-eq34.false _ c.character-r.ensures R.Bad c.in_default.is
 
 pub raw_step-requires : goal.raw_step-requires
-raw_step-requires c = raw_inside c.args.s.now c.args.at c.if-at-s.true c.if-b-eq92.false c.if-b-eq34.false _ c.character-r.ensures _ c.in-To.is
+raw_step-requires c =
+    let p = raw_inside c.args.s.now c.args.at c.if-at-s.true c.if-b-eq92.false c.if-b-eq34.false _ c.character-r.ensures _ c.in-To.is in
+    record { at_lt_end = p.0; end_in_bounds = p.1 }
 
 pub returns-then-at-s : goal.returns-then-at-s
 returns-then-at-s c = c.raw_step.ensures ∙ step_raw_lem c.args.s.now c.args.at c.if-at-s.true c.if-b-eq92.false c.if-b-eq34.false _ c.character-r.ensures (R.To _) c.in-To.is

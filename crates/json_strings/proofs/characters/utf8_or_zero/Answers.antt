@@ -10,4 +10,4 @@ use Rattle.json_strings.proofs.characters.utf8_or_zero.Lts as lts
 use Rattle.json_strings.proofs.characters.utf8_or_zero.Goals as goal
 
 pub returns : goal.returns
-returns c = byte_over (utf8 c.args.p) c.args.k (omega (arith, c.requires.1, c.if-k-n.false))
+returns c = byte_over (utf8 c.args.p) c.args.k (omega (arith, c.requires.n_value, c.if-k-n.false))
