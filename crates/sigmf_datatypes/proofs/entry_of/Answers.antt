@@ -1,0 +1,121 @@
+-- The code's table is the list of specs/, row by row: computed.
+use mathlib.Core.Path.{◌∙◌}
+use native.Mathlib.Omega.{arith}
+use Rattle.sigmf_datatypes.specs.Datatypes.{datatypes, twelve, datatype_of}
+use Rattle.sigmf_datatypes.proofs.Laws.{count, entry_none}
+use Rattle.sigmf_datatypes.proofs.entry_of.Goals as goal
+
+pub returns-in-0 : goal.returns-in-0
+unfolding datatype_of datatypes twelve
+returns-in-0 c = rw c.in-0.is c.row.ensures
+
+pub returns-in-1 : goal.returns-in-1
+unfolding datatype_of datatypes twelve
+returns-in-1 c = rw c.in-1.is c.row-in-1.ensures
+
+pub returns-in-2 : goal.returns-in-2
+unfolding datatype_of datatypes twelve
+returns-in-2 c = rw c.in-2.is c.row-in-2.ensures
+
+pub returns-in-3 : goal.returns-in-3
+unfolding datatype_of datatypes twelve
+returns-in-3 c = rw c.in-3.is c.row-in-3.ensures
+
+pub returns-in-4 : goal.returns-in-4
+unfolding datatype_of datatypes twelve
+returns-in-4 c = rw c.in-4.is c.row-in-4.ensures
+
+pub returns-in-5 : goal.returns-in-5
+unfolding datatype_of datatypes twelve
+returns-in-5 c = rw c.in-5.is c.row-in-5.ensures
+
+pub returns-in-6 : goal.returns-in-6
+unfolding datatype_of datatypes twelve
+returns-in-6 c = rw c.in-6.is c.row-in-6.ensures
+
+pub returns-in-7 : goal.returns-in-7
+unfolding datatype_of datatypes twelve
+returns-in-7 c = rw c.in-7.is c.row-in-7.ensures
+
+pub returns-in-8 : goal.returns-in-8
+unfolding datatype_of datatypes twelve
+returns-in-8 c = rw c.in-8.is c.row-in-8.ensures
+
+pub returns-in-9 : goal.returns-in-9
+unfolding datatype_of datatypes twelve
+returns-in-9 c = rw c.in-9.is c.row-in-9.ensures
+
+pub returns-in-10 : goal.returns-in-10
+unfolding datatype_of datatypes twelve
+returns-in-10 c = rw c.in-10.is c.row-in-10.ensures
+
+pub returns-in-11 : goal.returns-in-11
+unfolding datatype_of datatypes twelve
+returns-in-11 c = rw c.in-11.is c.row-in-11.ensures
+
+pub returns-in-12 : goal.returns-in-12
+unfolding datatype_of datatypes twelve
+returns-in-12 c = rw c.in-12.is c.row-in-12.ensures
+
+pub returns-in-13 : goal.returns-in-13
+unfolding datatype_of datatypes twelve
+returns-in-13 c = rw c.in-13.is c.row-in-13.ensures
+
+pub returns-in-14 : goal.returns-in-14
+unfolding datatype_of datatypes twelve
+returns-in-14 c = rw c.in-14.is c.row-in-14.ensures
+
+pub returns-in-15 : goal.returns-in-15
+unfolding datatype_of datatypes twelve
+returns-in-15 c = rw c.in-15.is c.row-in-15.ensures
+
+pub returns-in-16 : goal.returns-in-16
+unfolding datatype_of datatypes twelve
+returns-in-16 c = rw c.in-16.is c.row-in-16.ensures
+
+pub returns-in-17 : goal.returns-in-17
+unfolding datatype_of datatypes twelve
+returns-in-17 c = rw c.in-17.is c.row-in-17.ensures
+
+pub returns-in-18 : goal.returns-in-18
+unfolding datatype_of datatypes twelve
+returns-in-18 c = rw c.in-18.is c.row-in-18.ensures
+
+pub returns-in-19 : goal.returns-in-19
+unfolding datatype_of datatypes twelve
+returns-in-19 c = rw c.in-19.is c.row-in-19.ensures
+
+pub returns-in-20 : goal.returns-in-20
+unfolding datatype_of datatypes twelve
+returns-in-20 c = rw c.in-20.is c.row-in-20.ensures
+
+pub returns-in-21 : goal.returns-in-21
+unfolding datatype_of datatypes twelve
+returns-in-21 c = rw c.in-21.is c.row-in-21.ensures
+
+pub returns-in-22 : goal.returns-in-22
+unfolding datatype_of datatypes twelve
+returns-in-22 c = rw c.in-22.is c.row-in-22.ensures
+
+pub returns-in-23 : goal.returns-in-23
+unfolding datatype_of datatypes twelve
+returns-in-23 c = rw c.in-23.is c.row-in-23.ensures
+
+pub returns-in-24 : goal.returns-in-24
+unfolding datatype_of datatypes twelve
+returns-in-24 c = rw c.in-24.is c.row-in-24.ensures
+
+pub returns-in-25 : goal.returns-in-25
+unfolding datatype_of datatypes twelve
+returns-in-25 c = rw c.in-25.is c.row-in-25.ensures
+
+pub returns-in-26 : goal.returns-in-26
+unfolding datatype_of datatypes twelve
+returns-in-26 c = rw c.in-26.is c.row-in-26.ensures
+
+pub returns-in-27 : goal.returns-in-27
+unfolding datatype_of datatypes twelve
+returns-in-27 c = rw c.in-27.is c.row-in-27.ensures
+
+pub returns-in_default : goal.returns-in_default
+returns-in_default c = c.row-in_default.ensures ∙ entry_none c.args.code (omega arith)

@@ -1,0 +1,11 @@
+use native.Mathlib.Omega.{arith}
+use lib.ListN.{length, get_or, drop}
+use Prim.Native.Nat.{ℕ, ◌≤◌, ◌<◌, ◌-◌, ◌+◌, ◌*◌}
+use mathlib.Core.Path.{◌≡◌, refl, sym, ap, ◌∙◌}
+use Rattle.sigmf_datatypes.proofs.Laws.{entry_chars}
+use borrow.Author.Rules.{rules}
+use Rattle.sigmf_datatypes.proofs.name_length.Lts as lts
+use Rattle.sigmf_datatypes.proofs.name_length.Goals as goal
+
+pub returns : goal.returns
+returns c = entry_chars c.entry_of-d.result c.args.code c.entry_of-d.ensures
