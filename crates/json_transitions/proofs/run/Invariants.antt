@@ -1,0 +1,16 @@
+use borrow.Author.Rules.{rules}
+use native.Mathlib.Omega.{arith}
+use lib.ListN.{length, drop}
+use Prim.Native.Nat.{◌-◌}
+use mathlib.Core.Path.{◌≡◌, refl, sym, ◌∙◌}
+use Rattle.json_automaton.specs.Control.{run_moves}
+use Rattle.json_automaton.proofs.Accept.{run_past}
+use Rattle.json_transitions.proofs.Laws.{run_on}
+use Rattle.json_transitions.proofs.run.Lts as lts
+use Rattle.json_transitions.proofs.run.Given as goal
+
+abbrev pub invariant-loop-i : goal.invariant-loop-i
+invariant-loop-i l = run_moves l.d (drop l.i l.s) ≡ run_moves l.initial.d (drop l.initial.i l.s)
+
+abbrev pub decreases-loop-i : goal.decreases-loop-i
+decreases-loop-i l = length l.s - l.i

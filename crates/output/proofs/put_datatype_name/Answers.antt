@@ -1,0 +1,27 @@
+use borrow.Author.Rules.{rules}
+use Prim.Native.Nat.{◌-◌}
+use Rattle.output.proofs.Writing.{Copied, copy_begin, copy_inside, copy_on, copy_long, copy_end, put_none}
+use Rattle.sigmf_datatypes.specs.Datatypes.{datatype_name}
+use Rattle.output.proofs.put_datatype_name.Goals as goal
+
+pub returns-then-c-out : goal.returns-then-c-out
+returns-then-c-out c =
+    let p = put_none (datatype_name c.args.code) c.args.out.now _ c.name_length-c.ensures c.if-c-out.true in
+    record { count = p.0; memory = p.1 }
+
+pub loop-i-init : goal.loop-i-init
+loop-i-init c = search copy_begin
+
+pub bounds-out-i : goal.bounds-out-i
+bounds-out-i c = search copy_inside
+
+pub loop-i-preserved : goal.loop-i-preserved
+loop-i-preserved c = search copy_on
+
+pub shape_of-out : goal.shape_of-out
+shape_of-out c = search copy_long
+
+pub returns : goal.returns
+returns c =
+    let p = copy_end _ _ _ _ _ c.loop-i.invariant c.loop-i-test.false in
+    record { count = p.0; memory = p.1 }

@@ -1,0 +1,11 @@
+use borrow.Author.Rules.{rules}
+use Prim.Native.Nat.{◌-◌}
+use Rattle.reader_layout.proofs.StageLaws.{Summing, sum_begin, sum_done, sum_over, sum_fits, sum_on}
+use Rattle.reader_layout.proofs.header_sum.Lts as lts
+use Rattle.reader_layout.proofs.header_sum.Given as goal
+
+abbrev pub invariant-loop-i : goal.invariant-loop-i
+invariant-loop-i l = Summing l.caps l.n l.most l.h l.i
+
+abbrev pub decreases-loop-i : goal.decreases-loop-i
+decreases-loop-i l = l.n - l.i

@@ -1,0 +1,11 @@
+use borrow.Author.Rules.{rules}
+use Prim.Native.Nat.{◌-◌}
+use Rattle.reader_layout.proofs.WriteLaws.{Noting, notes_begin, notes_end, note_inside, note_on}
+use Rattle.reader_layout.proofs.write_annotations.Lts as lts
+use Rattle.reader_layout.proofs.write_annotations.Given as goal
+
+abbrev pub invariant-loop-i : goal.invariant-loop-i
+invariant-loop-i l = Noting l.notes l.m l.o l.e l.initial.out l.out l.i
+
+abbrev pub decreases-loop-i : goal.decreases-loop-i
+decreases-loop-i l = l.m - l.i

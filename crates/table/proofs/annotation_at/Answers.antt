@@ -1,0 +1,14 @@
+use native.Mathlib.Omega.{arith}
+use lib.ListN.{length, get_or, drop}
+use Prim.Native.Nat.{ℕ, ◌≤◌, ◌<◌, ◌-◌, ◌+◌, ◌*◌}
+use mathlib.Core.Path.{◌≡◌, refl, sym, ap, ◌∙◌}
+use Rattle.table.proofs.RowLaws.{annotation_in_lem, annotation_out}
+use borrow.Author.Rules.{rules}
+use Rattle.table.proofs.annotation_at.Lts as lts
+use Rattle.table.proofs.annotation_at.Goals as goal
+
+pub returns-then-i-rows : goal.returns-then-i-rows
+returns-then-i-rows c = annotation_in_lem c.args.rows.now c.args.i c.if-i-rows.true
+
+pub returns : goal.returns
+returns c = annotation_out c.args.rows.now c.args.i c.if-i-rows.false

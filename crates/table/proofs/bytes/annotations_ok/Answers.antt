@@ -1,0 +1,17 @@
+use borrow.Author.Rules.{rules}
+use Prim.Native.Nat.{◌≤◌, ◌-◌}
+use mathlib.Core.Path.{◌≡◌}
+use Rattle.little_endian.specs.LittleEndian.{numbers_of}
+use Rattle.table.specs.Rows.{annotation_at, rest, annotations}
+use Rattle.table.specs.Judge.{annotations_ok}
+use Rattle.table.proofs.TableLaws.{note_bad, note_on, note_done}
+use Rattle.table.proofs.bytes.annotations_ok.Goals as goal
+
+pub loop-i-preserved : goal.loop-i-preserved
+loop-i-preserved c = (search rules, search note_on)
+
+pub returns-else-annotation_ok : goal.returns-else-annotation_ok
+returns-else-annotation_ok c = search note_bad
+
+pub returns : goal.returns
+returns c = search note_done

@@ -1,0 +1,14 @@
+use native.Mathlib.Omega.{arith}
+use lib.ListN.{length, get_or, drop}
+use Prim.Native.Nat.{ℕ, ◌≤◌, ◌<◌, ◌-◌, ◌+◌, ◌*◌}
+use mathlib.Core.Path.{◌≡◌, refl, sym, ap, ◌∙◌}
+use Rattle.table.proofs.TableLaws.{format_none, format_same}
+use borrow.Author.Rules.{rules}
+use Rattle.table.proofs.format_ok.Lts as lts
+use Rattle.table.proofs.format_ok.Goals as goal
+
+pub returns-then-w-eq0 : goal.returns-then-w-eq0
+returns-then-w-eq0 c = search format_none
+
+pub returns : goal.returns
+returns c = search format_same

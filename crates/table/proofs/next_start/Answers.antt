@@ -1,0 +1,14 @@
+use native.Mathlib.Omega.{arith}
+use lib.ListN.{length, get_or, drop}
+use Prim.Native.Nat.{ℕ, ◌≤◌, ◌<◌, ◌-◌, ◌+◌, ◌*◌}
+use mathlib.Core.Path.{◌≡◌, refl, sym, ap, ◌∙◌}
+use Rattle.table.proofs.TableLaws.{next_some, next_none}
+use borrow.Author.Rules.{rules}
+use Rattle.table.proofs.next_start.Lts as lts
+use Rattle.table.proofs.next_start.Goals as goal
+
+pub returns-then-i-n : goal.returns-then-i-n
+returns-then-i-n c = search next_some
+
+pub returns : goal.returns
+returns c = search next_none

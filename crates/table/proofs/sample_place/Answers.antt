@@ -1,0 +1,20 @@
+use native.Mathlib.Omega.{arith}
+use lib.ListN.{length, get_or, drop}
+use Prim.Native.Nat.{ℕ, ◌≤◌, ◌<◌, ◌-◌, ◌+◌, ◌*◌}
+use mathlib.Core.Path.{◌≡◌, refl, sym, ap, ◌∙◌}
+use Rattle.table.proofs.LocateLaws.{laid_sum, place_low, place_mul, place_add, place_is}
+use borrow.Author.Rules.{rules}
+use Rattle.table.proofs.sample_place.Lts as lts
+use Rattle.table.proofs.sample_place.Goals as goal
+
+pub headers_to-h-requires : goal.headers_to-h-requires
+headers_to-h-requires c = search laid_sum
+
+pub bytes_before-requires : goal.bytes_before-requires
+bytes_before-requires c = (search place_low, search place_mul)
+
+pub overflow_add-result : goal.overflow_add-result
+overflow_add-result c = search place_add
+
+pub returns : goal.returns
+returns c = search place_is

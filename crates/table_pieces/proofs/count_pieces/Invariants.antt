@@ -1,0 +1,14 @@
+use native.Mathlib.Omega.{arith}
+use lib.ListN.{length, get_or, drop}
+use Prim.Native.Nat.{ℕ, ◌≤◌, ◌<◌, ◌-◌, ◌+◌, ◌*◌}
+use mathlib.Core.Path.{◌≡◌, refl, sym, ap, ◌∙◌}
+use Rattle.table_pieces.proofs.PiecesLaws.{Counting, count_begin, walk_sum, run_less, count_on, count_done}
+use borrow.Author.Rules.{rules}
+use Rattle.table_pieces.proofs.count_pieces.Lts as lts
+use Rattle.table_pieces.proofs.count_pieces.Given as goal
+
+abbrev pub invariant-loop-i : goal.invariant-loop-i
+invariant-loop-i l = Counting l.caps l.a l.b l.n l.i l.h l.c l.k
+
+abbrev pub decreases-loop-i : goal.decreases-loop-i
+decreases-loop-i l = l.b - l.i

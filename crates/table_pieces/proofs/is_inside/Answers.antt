@@ -1,0 +1,17 @@
+use native.Mathlib.Omega.{arith}
+use lib.ListN.{length, get_or, drop}
+use Prim.Native.Nat.{ℕ, ◌≤◌, ◌<◌, ◌-◌, ◌+◌, ◌*◌}
+use mathlib.Core.Path.{◌≡◌, refl, sym, ap, ◌∙◌}
+use Rattle.table_pieces.proofs.PiecesLaws.{in_low, in_up, in_high}
+use borrow.Author.Rules.{rules}
+use Rattle.table_pieces.proofs.is_inside.Lts as lts
+use Rattle.table_pieces.proofs.is_inside.Goals as goal
+
+pub returns-then-a-t : goal.returns-then-a-t
+returns-then-a-t c = search in_low
+
+pub returns-then-b-a : goal.returns-then-b-a
+returns-then-b-a c = search in_up
+
+pub returns : goal.returns
+returns c = search in_high
