@@ -9,7 +9,7 @@ use Rattle.json_names.proofs.PlainLaws.{run_block}
 use Rattle.json_names.proofs.plain.plain_blocks.Given as goal
 
 abbrev pub invariant-loop-x : goal.invariant-loop-x
-invariant-loop-x l = PlainRun l.s l.at (record { l.at = l.i; key = l.h })
+invariant-loop-x l = PlainRun l.s l.at (record { at = l.i; key = l.h })
 
 abbrev pub decreases-loop-x : goal.decreases-loop-x
 decreases-loop-x l = length l.s - l.i

@@ -9,7 +9,7 @@ use Rattle.json_names.proofs.PlainLaws.{run_more}
 use Rattle.json_names.proofs.plain.plain_run.Given as goal
 
 abbrev pub invariant-loop-h : goal.invariant-loop-h
-invariant-loop-h l = PlainRun l.s l.at (record { l.at = l.i; key = l.h })
+invariant-loop-h l = PlainRun l.s l.at (record { at = l.i; key = l.h })
 
 abbrev pub decreases-loop-h : goal.decreases-loop-h
 decreases-loop-h l = length l.s - l.i
