@@ -15,8 +15,8 @@ returns-then-b-eq44 c = rw (le-ltb _ _ c.if-stack-lt2.false, eq-eqb _ _ c.if-b-e
 
 pub returns-then-b-close_of : goal.returns-then-b-close_of
 unfolding after_move
-returns-then-b-close_of c = rw (le-ltb _ _ c.if-stack-lt2.false, ne_eqb _ _ c.if-b-eq44.false, eq-eqb _ _ (c.if-b-close_of.true ∙ c.Close-of.ensures)) c.pop.ensures
+returns-then-b-close_of c = rw (le-ltb _ _ c.if-stack-lt2.false, ne_eqb _ _ c.if-b-eq44.false, eq-eqb _ _ (c.if-b-close_of.true ∙ c.close_of.ensures)) c.pop.ensures
 
 pub returns : goal.returns
 unfolding after_move
-returns c = rw (le-ltb _ _ c.if-stack-lt2.false, ne_eqb _ _ c.if-b-eq44.false, ne_eqb _ _ (λ h. c.if-b-close_of.false (h ∙ sym c.Close-of.ensures))) c.lost-2.ensures
+returns c = rw (le-ltb _ _ c.if-stack-lt2.false, ne_eqb _ _ c.if-b-eq44.false, ne_eqb _ _ (λ h. c.if-b-close_of.false (h ∙ sym c.close_of.ensures))) c.lost-2.ensures

@@ -1,0 +1,14 @@
+use borrow.Author.Rules.{rules}
+use native.Mathlib.Omega.{arith}
+use lib.ListN.{length}
+use Prim.Native.Nat.{◌+◌}
+use mathlib.Core.Path.{◌≡◌, refl}
+use Rattle.decimal.proofs.PutLaws.{count_room, count_on, count_1, count_2, count_3, count_4}
+use Rattle.decimal.specs.Decimal.{digits_of}
+use Rattle.decimal.proofs.decimal_length.Given as goal
+
+abbrev pub invariant-loop-m : goal.invariant-loop-m
+invariant-loop-m l = l.c + length (digits_of l.m) ≡ 1 + length (digits_of l.n)
+
+abbrev pub decreases-loop-m : goal.decreases-loop-m
+decreases-loop-m l = l.m

@@ -1,0 +1,15 @@
+use borrow.Author.Rules.{rules}
+use native.Mathlib.Omega.{arith}
+use lib.ListN.{length, drop}
+use Prim.Native.Nat.{◌-◌}
+use mathlib.Core.Path.{◌≡◌, refl, ◌∙◌}
+use Rattle.json_judge.proofs.SeenLaws.{key_on, key_end}
+use Rattle.json_judge.specs.Stack.{has_key}
+use mathlib.Core.Bool.{◌||◌}
+use Rattle.json_judge.proofs.seen.has_key.Given as goal
+
+abbrev pub invariant-loop-i : goal.invariant-loop-i
+invariant-loop-i l = (l.found || has_key l.key (drop l.i l.keys)) ≡ has_key l.key l.keys
+
+abbrev pub decreases-loop-i : goal.decreases-loop-i
+decreases-loop-i l = length l.keys - l.i

@@ -1,0 +1,43 @@
+use borrow.Author.Rules.{rules}
+use native.Mathlib.Omega.{arith}
+use lib.ListN.{length}
+use Rattle.listing_text.proofs.ShownLaws.{shown_parts, shown_on, shown_close}
+use Rattle.output.proofs.Writing.{Writes, writes_none, writes_end, writes_long, next_from, next_room, next_sum, writes_next}
+use Rattle.json_strings.proofs.DecodeLaws.{streamed_next, streamed_end, shorter}
+use Rattle.listing_text.specs.Shown.{shown_byte}
+use Rattle.table.specs.Rows.{flat}
+use Rattle.json_strings.specs.Decode.{decoded_from}
+use Rattle.json_strings.specs.Stream.{stream}
+use mathlib.Core.List.{[], ◌∷◌}
+use Rattle.listing_text.proofs.put_shown.Goals as goal
+
+pub loop-b-init : goal.loop-b-init
+loop-b-init c = writes_none c.args.out.now (shown_parts c.args.raw.now) c.requires
+
+pub shape_of-out-in_default : goal.shape_of-out-in_default
+shape_of-out-in_default c = writes_long c.loop-b.invariant
+
+pub returns-in_default : goal.returns-in_default
+returns-in_default c =
+    let p = writes_end (shown_close _ c.loop-b.invariant (streamed_end _ _ _ c.next_byte-g.ensures c.in_default.is)) in
+    record { count = p.0; memory = p.1 }
+
+pub slice_bounds-put_byte-count : goal.slice_bounds-put_byte-count
+slice_bounds-put_byte-count c = next_from c.loop-b.invariant
+
+pub UNKNOWN-slice-bounds-put-byte-start : goal.UNKNOWN-slice-bounds-put-byte-start
+UNKNOWN-slice-bounds-put-byte-start c = next_from c.loop-b.invariant
+
+pub put_byte-w-requires : goal.put_byte-w-requires
+put_byte-w-requires c = next_room (shown_on _ c.loop-b.invariant (streamed_next _ _ _ c.next_byte-g.ensures _ _ c.in-Next.is))
+
+pub overflow_add-n : goal.overflow_add-n
+overflow_add-n c =
+    let g = c.well_formed_lem in
+    omega (arith, next_sum (shown_on _ c.loop-b.invariant (streamed_next _ _ _ c.next_byte-g.ensures _ _ c.in-Next.is)) c.put_byte-w.ensures)
+
+pub loop-b-smaller : goal.loop-b-smaller
+loop-b-smaller c = shorter _ _ _ (streamed_next _ _ _ c.next_byte-g.ensures _ _ c.in-Next.is)
+
+pub loop-b-preserved : goal.loop-b-preserved
+loop-b-preserved c = writes_next (shown_on _ c.loop-b.invariant (streamed_next _ _ _ c.next_byte-g.ensures _ _ c.in-Next.is)) c.put_byte-w.ensures

@@ -1,0 +1,7 @@
+use Prim.Native.Nat.{◌-◌}
+use Rattle.table_stored.proofs.CodeLaws.{summary_is}
+use borrow.Author.Rules.{rules}
+use Rattle.table_stored.proofs.summary_of.Goals as goal
+
+pub returns : goal.returns
+returns c = search summary_is

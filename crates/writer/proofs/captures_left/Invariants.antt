@@ -1,0 +1,18 @@
+use borrow.Author.Rules.{rules}
+use lib.ListN.{length}
+use Prim.Native.Nat.{◌-◌}
+use mathlib.Core.Path.{◌≡◌, refl, ap}
+use Rattle.output.proofs.RowLines.{count_end, count_over, count_on}
+use Rattle.table.specs.Rows.{capture_at, rest, flat}
+use Rattle.writer.specs.TextParts.{comma_before, item}
+use Rattle.writer.specs.Metadata.{capture_text}
+use Rattle.output.specs.Left.{left_after}
+use mathlib.Core.List.{◌++◌}
+use Rattle.table.specs.declared.Capture.{Capture}
+use Rattle.writer.proofs.captures_left.Given as goal
+
+abbrev pub invariant-loop-k : goal.invariant-loop-k
+invariant-loop-k l = left_after l.left (length (flat (λ l. l) (rest (item capture_text (capture_at l.caps)) l.n l.k))) ≡ left_after l.room (length (flat (λ l. l) (rest (item capture_text (capture_at l.caps)) l.n 0)))
+
+abbrev pub decreases-loop-k : goal.decreases-loop-k
+decreases-loop-k l = l.n - l.k

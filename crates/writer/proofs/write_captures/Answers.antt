@@ -1,0 +1,42 @@
+use borrow.Author.Rules.{rules}
+use native.Mathlib.Omega.{arith}
+use Prim.Native.Nat.{◌-◌}
+use mathlib.Core.Path.{ap}
+use Rattle.output.proofs.Writing.{Writes, writes_none, writes_end, writes_long, next_from, next_room, next_sum, writes_next, whole_part}
+use Rattle.output.proofs.RowLines.{write_more, write_none}
+use Rattle.table.specs.Rows.{capture_at, rest, flat}
+use Rattle.writer.specs.TextParts.{comma_before, item}
+use Rattle.writer.specs.Metadata.{capture_text}
+use mathlib.Core.List.{[], ◌∷◌, ◌++◌}
+use Rattle.table.specs.declared.Capture.{Capture}
+use Rattle.writer.proofs.write_captures.Goals as goal
+
+pub loop-k-init : goal.loop-k-init
+loop-k-init c = writes_none c.args.out.now (whole_part _) c.requires
+
+pub slice_bounds-put_capture-count : goal.slice_bounds-put_capture-count
+slice_bounds-put_capture-count c = next_from c.loop-k.invariant
+
+pub UNKNOWN-slice-bounds-put-capture-start : goal.UNKNOWN-slice-bounds-put-capture-start
+UNKNOWN-slice-bounds-put-capture-start c = next_from c.loop-k.invariant
+
+pub put_capture-l-requires : goal.put_capture-l-requires
+put_capture-l-requires c =
+    next_room (write_more (λ l. l) (item capture_text (capture_at c.args.caps.now)) _ _ _ (ap (λ (x : Capture). comma_before c.loop-k.k ++ capture_text x) c.capture_at-x.ensures) c.loop-k-test.true c.loop-k.invariant)
+
+pub overflow_add-used : goal.overflow_add-used
+overflow_add-used c =
+    let g = c.well_formed_lem in
+    omega (arith, next_sum (write_more (λ l. l) (item capture_text (capture_at c.args.caps.now)) _ _ _ (ap (λ (x : Capture). comma_before c.loop-k.k ++ capture_text x) c.capture_at-x.ensures) c.loop-k-test.true c.loop-k.invariant) c.put_capture-l.ensures)
+
+pub loop-k-preserved : goal.loop-k-preserved
+loop-k-preserved c =
+    writes_next (write_more (λ l. l) (item capture_text (capture_at c.args.caps.now)) _ _ _ (ap (λ (x : Capture). comma_before c.loop-k.k ++ capture_text x) c.capture_at-x.ensures) c.loop-k-test.true c.loop-k.invariant) c.put_capture-l.ensures
+
+pub shape_of-out : goal.shape_of-out
+shape_of-out c = writes_long c.loop-k.invariant
+
+pub returns : goal.returns
+returns c =
+    let p = writes_end (write_none (λ l. l) (item capture_text (capture_at c.args.caps.now)) _ _ c.loop-k-test.false c.loop-k.invariant) in
+    record { count = p.0; memory = p.1 }
