@@ -15,8 +15,8 @@ slice_bounds-put_shown-count c =
     let S2 = writes_byte S1 in
     next_from S2
 
-pub UNKNOWN-slice-bounds-put-shown-start : goal.UNKNOWN-slice-bounds-put-shown-start
-UNKNOWN-slice-bounds-put-shown-start c =
+pub slice_bounds-put_shown-start : goal.slice_bounds-put_shown-start
+slice_bounds-put_shown-start c =
     let S1 = writes_none c.args.out.now (quoted_parts c.args.raw.now) c.requires in
     let S2 = writes_byte S1 in
     next_from S2
@@ -31,29 +31,29 @@ pub overflow_add-n : goal.overflow_add-n
 overflow_add-n c =
     let S1 = writes_none c.args.out.now (quoted_parts c.args.raw.now) c.requires in
     let S2 = writes_byte S1 in
-    let g = c.well_formed_lem in
-    omega (arith, next_sum S2 c.put_shown-n.ensures)
+    let g = c.well_formed in
+    omega (arith, next_sum S2 (c.put_shown-n.ensures.count, c.put_shown-n.ensures.memory))
 
 pub bounds-out-n : goal.bounds-out-n
 bounds-out-n c =
     let S1 = writes_none c.args.out.now (quoted_parts c.args.raw.now) c.requires in
     let S2 = writes_byte S1 in
-    let S3 = writes_next S2 c.put_shown-n.ensures in
+    let S3 = writes_next S2 (c.put_shown-n.ensures.count, c.put_shown-n.ensures.memory) in
     byte_inside S3
 
 pub overflow_add-result : goal.overflow_add-result
 overflow_add-result c =
     let S1 = writes_none c.args.out.now (quoted_parts c.args.raw.now) c.requires in
     let S2 = writes_byte S1 in
-    let S3 = writes_next S2 c.put_shown-n.ensures in
-    let g = c.well_formed_lem in
+    let S3 = writes_next S2 (c.put_shown-n.ensures.count, c.put_shown-n.ensures.memory) in
+    let g = c.well_formed in
     omega (arith, byte_sum S3)
 
 pub shape_of-out : goal.shape_of-out
 shape_of-out c =
     let S1 = writes_none c.args.out.now (quoted_parts c.args.raw.now) c.requires in
     let S2 = writes_byte S1 in
-    let S3 = writes_next S2 c.put_shown-n.ensures in
+    let S3 = writes_next S2 (c.put_shown-n.ensures.count, c.put_shown-n.ensures.memory) in
     let S4 = writes_byte S3 in
     writes_long S4
 
@@ -61,7 +61,7 @@ pub returns : goal.returns
 returns c =
     let S1 = writes_none c.args.out.now (quoted_parts c.args.raw.now) c.requires in
     let S2 = writes_byte S1 in
-    let S3 = writes_next S2 c.put_shown-n.ensures in
+    let S3 = writes_next S2 (c.put_shown-n.ensures.count, c.put_shown-n.ensures.memory) in
     let S4 = writes_byte S3 in
     let p = writes_end S4 in
     record { count = p.0; memory = p.1 }

@@ -25,19 +25,19 @@ returns-in_default c =
 pub slice_bounds-put_byte-count : goal.slice_bounds-put_byte-count
 slice_bounds-put_byte-count c = next_from c.loop-b.invariant
 
-pub UNKNOWN-slice-bounds-put-byte-start : goal.UNKNOWN-slice-bounds-put-byte-start
-UNKNOWN-slice-bounds-put-byte-start c = next_from c.loop-b.invariant
+pub slice_bounds-put_byte-start : goal.slice_bounds-put_byte-start
+slice_bounds-put_byte-start c = next_from c.loop-b.invariant
 
 pub put_byte-w-requires : goal.put_byte-w-requires
 put_byte-w-requires c = next_room (shown_on _ c.loop-b.invariant (streamed_next _ _ _ c.next_byte-g.ensures _ _ c.in-Next.is))
 
 pub overflow_add-n : goal.overflow_add-n
 overflow_add-n c =
-    let g = c.well_formed_lem in
-    omega (arith, next_sum (shown_on _ c.loop-b.invariant (streamed_next _ _ _ c.next_byte-g.ensures _ _ c.in-Next.is)) c.put_byte-w.ensures)
+    let g = c.well_formed in
+    omega (arith, next_sum (shown_on _ c.loop-b.invariant (streamed_next _ _ _ c.next_byte-g.ensures _ _ c.in-Next.is)) (c.put_byte-w.ensures.count, c.put_byte-w.ensures.memory))
 
 pub loop-b-smaller : goal.loop-b-smaller
 loop-b-smaller c = shorter _ _ _ (streamed_next _ _ _ c.next_byte-g.ensures _ _ c.in-Next.is)
 
 pub loop-b-preserved : goal.loop-b-preserved
-loop-b-preserved c = writes_next (shown_on _ c.loop-b.invariant (streamed_next _ _ _ c.next_byte-g.ensures _ _ c.in-Next.is)) c.put_byte-w.ensures
+loop-b-preserved c = writes_next (shown_on _ c.loop-b.invariant (streamed_next _ _ _ c.next_byte-g.ensures _ _ c.in-Next.is)) (c.put_byte-w.ensures.count, c.put_byte-w.ensures.memory)

@@ -16,5 +16,5 @@ pub returns : goal.returns
 returns c =
     let X = shown_text c.args.s.now c.args.p in
     let room = put_room X c.args.out.now _ c.text_left-g.ensures _ c.in-Bytes.is in
-    let p = put_some X c.args.out.now room c.put_in_room.ensures in
+    let p = put_some X c.args.out.now room (c.put_in_room.ensures.count, c.put_in_room.ensures.memory) in
     record { count = p.0; memory = p.1 }

@@ -1,0 +1,16 @@
+use borrow.Author.Rules.{rules}
+use native.Mathlib.Omega.{arith}
+use lib.ListN.{length}
+use Prim.Native.Nat.{ℕ, ◌-◌}
+use mathlib.Core.Path.{◌≡◌, ap, ◌∙◌}
+use Rattle.sigmf_extensions.specs.Extensions.{tally_from, tally_of}
+use Rattle.sigmf_extensions.proofs.ExtensionLaws.{Bounded, bounded_on, tally_end, step_on, tally_on}
+use Rattle.json_walk.specs.Members.{members_from}
+use Rattle.sigmf_extensions.specs.Extensions.{no_members}
+use Rattle.sigmf_extensions.proofs.entry.tally.Given as goal
+
+abbrev pub invariant-loop-m : goal.invariant-loop-m
+invariant-loop-m l = (Bounded l.t l.at) × (tally_from l.part l.t (members_from l.part l.at) ≡ tally_of l.part)
+
+abbrev pub decreases-loop-m : goal.decreases-loop-m
+decreases-loop-m l = length l.part - l.at

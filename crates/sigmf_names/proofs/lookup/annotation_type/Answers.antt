@@ -1,0 +1,49 @@
+-- The code's types are those of the list of specs/, field by field: computed.
+use Rattle.json_blocks.proofs.MatchLaws.{Apart, apart_over}
+use Rattle.sigmf_names.specs.Names.{annotation_fields, core_at, type_at}
+use Rattle.sigmf_names.proofs.NameLaws.{type_over}
+use Rattle.sigmf_names.proofs.lookup.annotation_type.Goals as goal
+
+pub returns-in-0 : goal.returns-in-0
+unfolding annotation_fields core_at type_at
+returns-in-0 c = rw c.in-0.is
+
+pub returns-in-1 : goal.returns-in-1
+unfolding annotation_fields core_at type_at
+returns-in-1 c = rw c.in-1.is
+
+pub returns-in-2 : goal.returns-in-2
+unfolding annotation_fields core_at type_at
+returns-in-2 c = rw c.in-2.is
+
+pub returns-in-3 : goal.returns-in-3
+unfolding annotation_fields core_at type_at
+returns-in-3 c = rw c.in-3.is
+
+pub returns-in-4 : goal.returns-in-4
+unfolding annotation_fields core_at type_at
+returns-in-4 c = rw c.in-4.is
+
+pub returns-in-5 : goal.returns-in-5
+unfolding annotation_fields core_at type_at
+returns-in-5 c = rw c.in-5.is
+
+pub returns-in-6 : goal.returns-in-6
+unfolding annotation_fields core_at type_at
+returns-in-6 c = rw c.in-6.is
+
+pub returns-in-7 : goal.returns-in-7
+unfolding annotation_fields core_at type_at
+returns-in-7 c = rw c.in-7.is
+
+pub returns-in-8 : goal.returns-in-8
+unfolding annotation_fields core_at type_at
+returns-in-8 c = rw c.in-8.is
+
+pub returns-in-9 : goal.returns-in-9
+unfolding annotation_fields core_at type_at
+returns-in-9 c = rw c.in-9.is
+
+pub returns-in_default : goal.returns-in_default
+unfolding annotation_fields Apart
+returns-in_default c = type_over annotation_fields c.args.i (apart_over c.args.i 10 c.in-0.rest)
