@@ -5,8 +5,8 @@ use Rattle.json_judge.proofs.ValueLaws.{leaf_string, leaf_true, leaf_false, leaf
 use borrow.Author.Rules.{rules}
 use Rattle.json_judge.proofs.values.leaf.Goals as goal
 
-pub UNKNOWN-overflow-add-t8 : goal.UNKNOWN-overflow-add-t8
-UNKNOWN-overflow-add-t8 c = omega (arith, inside c.args.s.now c.args.at _ c.peek-b.ensures (omega arith))
+pub overflow_add-at : goal.overflow_add-at
+overflow_add-at c = omega (arith, inside c.args.s.now c.args.at _ c.peek-b.ensures (omega arith))
 
 pub returns-then-b-eq34 : goal.returns-then-b-eq34
 returns-then-b-eq34 c = leaf_string 0 c.args.s.now c.args.at _ c.peek-b.ensures (λ z. c.requires.fact (sym c.peek-b.ensures ∙ z)) (λ z. c.requires.fact_2 (sym c.peek-b.ensures ∙ z)) _ c.if-b-eq34.true c.string.ensures
