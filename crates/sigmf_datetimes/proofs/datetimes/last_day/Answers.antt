@@ -1,3 +1,4 @@
+use native.Mathlib.Omega.{arith}
 use mathlib.Core.Path.{sym, ◌∙◌}
 use Rattle.sigmf_datetimes.specs.Datetimes.{last_day, month_days}
 use Rattle.sigmf_datetimes.proofs.DatetimeLaws.{no_month}
@@ -58,4 +59,5 @@ returns-in-12 c = rw c.in-12.is
 
 pub returns-in_default : goal.returns-in_default
 unfolding last_day month_days
-returns-in_default c = no_month _ _ c.in-1.rest.0.0.0.0.0.0.0.0.0.0.1 c.if-m-eq2.false c.in-1.rest.0.0.0.0.0.0.0.0.0.1 c.in-1.rest.0.0.0.0.0.0.0.0.1 c.in-1.rest.0.0.0.0.0.0.0.1 c.in-1.rest.0.0.0.0.0.0.1 c.in-1.rest.0.0.0.0.0.1 c.in-1.rest.0.0.0.0.1 c.in-1.rest.0.0.0.1 c.in-1.rest.0.0.1 c.in-1.rest.0.1 c.in-1.rest.1
+returns-in_default c =
+    no_month _ _ (λ e. omega (arith, e)) c.if-m-eq2.false (λ e. omega (arith, e)) (λ e. omega (arith, e)) (λ e. omega (arith, e)) (λ e. omega (arith, e)) (λ e. omega (arith, e)) (λ e. omega (arith, e)) (λ e. omega (arith, e)) (λ e. omega (arith, e)) (λ e. omega (arith, e)) (λ e. omega (arith, e))
