@@ -13,12 +13,12 @@ load_from-r-requires c = (c.summary_of-t.ensures, length_good c.args.file.now c.
 
 pub returns-then-r-ne0 : goal.returns-then-r-ne0
 returns-then-r-ne0 c =
-    let p = loaded_no c.args.file.now c.args.capto.now c.args.noteto.now _ _ c.is_opening.ensures c.if-is_opening.true (length_good c.args.file.now c.if-file-lt-HEAD.false c.summary_of-t.result c.summary_of-t.ensures _ c.rows_are.ensures c.if-rows_are.true) _ _ _ c.load_from-r.ensures c.if-r-ne0.true c.no_table-then-r-ne0.ensures in
+    let p = loaded_no c.args.file.now c.args.capto.now c.args.noteto.now _ _ c.is_opening.ensures c.if-is_opening.true (length_good c.args.file.now c.if-file-lt-HEAD.false c.summary_of-t.result c.summary_of-t.ensures _ c.rows_are.ensures c.if-rows_are.true) _ _ _ (c.load_from-r.ensures.answer, (c.load_from-r.ensures.captures, c.load_from-r.ensures.annotations)) c.if-r-ne0.true c.no_table-then-r-ne0.ensures in
     record { answer = p.0; captures = p.1.0; annotations = p.1.1 }
 
 pub returns-then-rows_are : goal.returns-then-rows_are
 returns-then-rows_are c =
-    let p = loaded_all c.args.file.now c.args.capto.now c.args.noteto.now _ _ c.is_opening.ensures c.if-is_opening.true (length_good c.args.file.now c.if-file-lt-HEAD.false c.summary_of-t.result c.summary_of-t.ensures _ c.rows_are.ensures c.if-rows_are.true) _ _ _ c.load_from-r.ensures c.if-r-ne0.false c.summary_of.ensures in
+    let p = loaded_all c.args.file.now c.args.capto.now c.args.noteto.now _ _ c.is_opening.ensures c.if-is_opening.true (length_good c.args.file.now c.if-file-lt-HEAD.false c.summary_of-t.result c.summary_of-t.ensures _ c.rows_are.ensures c.if-rows_are.true) _ _ _ (c.load_from-r.ensures.answer, (c.load_from-r.ensures.captures, c.load_from-r.ensures.annotations)) c.if-r-ne0.false c.summary_of.ensures in
     record { answer = p.0; captures = p.1.0; annotations = p.1.1 }
 
 pub returns-then-is_opening : goal.returns-then-is_opening

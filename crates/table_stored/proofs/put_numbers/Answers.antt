@@ -19,15 +19,15 @@ loop-k-init c = writes_none c.args.out.now (whole_part _) (front_room c.args.num
 pub slice_bounds-put_number-count : goal.slice_bounds-put_number-count
 slice_bounds-put_number-count c = next_from c.loop-k.invariant
 
-pub UNKNOWN-slice-bounds-put-number-start : goal.UNKNOWN-slice-bounds-put-number-start
-UNKNOWN-slice-bounds-put-number-start c = next_from c.loop-k.invariant
+pub slice_bounds-put_number-start : goal.slice_bounds-put_number-start
+slice_bounds-put_number-start c = next_from c.loop-k.invariant
 
 pub put_number-requires : goal.put_number-requires
 put_number-requires c = omega (arith, next_room (write_more (little_endian number_width) (λ j. get_or c.args.numbers.now j 0) _ _ _ refl c.loop-k-test.true c.loop-k.invariant), length_bytes number_width (get_or c.args.numbers.now c.loop-k.k 0))
 
 pub overflow_add-used : goal.overflow_add-used
 overflow_add-used c =
-    let g = c.well_formed_lem in
+    let g = c.well_formed in
     omega (arith, next_sum (write_more (little_endian number_width) (λ j. get_or c.args.numbers.now j 0) _ _ _ refl c.loop-k-test.true c.loop-k.invariant) (sym (length_bytes number_width _), c.put_number.ensures))
 
 pub loop-k-preserved : goal.loop-k-preserved

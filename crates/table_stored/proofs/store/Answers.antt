@@ -8,7 +8,7 @@ put_table-n-requires c = record { notes_value = store_counts c.args.t c.args.cap
 
 pub returns-then-has_room : goal.returns-then-has_room
 returns-then-has_room c =
-    let p = store_0 c.args.t c.args.caps.now c.args.notes.now c.args.out.now _ c.well_formed-2.ensures c.if-well_formed.true _ c.has_room.ensures c.if-has_room.true _ _ c.put_table-n.ensures in
+    let p = store_0 c.args.t c.args.caps.now c.args.notes.now c.args.out.now _ c.well_formed-2.ensures c.if-well_formed.true _ c.has_room.ensures c.if-has_room.true _ _ (c.put_table-n.ensures.count, c.put_table-n.ensures.memory) in
     record { answer = p.0; memory = p.1 }
 
 pub returns-then-well_formed : goal.returns-then-well_formed
