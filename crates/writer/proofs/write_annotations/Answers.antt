@@ -17,8 +17,8 @@ loop-k-init c = writes_none c.args.out.now (whole_part _) c.requires
 pub slice_bounds-put_annotation-count : goal.slice_bounds-put_annotation-count
 slice_bounds-put_annotation-count c = next_from c.loop-k.invariant
 
-pub UNKNOWN-slice-bounds-put-annotation-start : goal.UNKNOWN-slice-bounds-put-annotation-start
-UNKNOWN-slice-bounds-put-annotation-start c = next_from c.loop-k.invariant
+pub slice_bounds-put_annotation-start : goal.slice_bounds-put_annotation-start
+slice_bounds-put_annotation-start c = next_from c.loop-k.invariant
 
 pub put_annotation-l-requires : goal.put_annotation-l-requires
 put_annotation-l-requires c =
@@ -26,12 +26,12 @@ put_annotation-l-requires c =
 
 pub overflow_add-used : goal.overflow_add-used
 overflow_add-used c =
-    let g = c.well_formed_lem in
-    omega (arith, next_sum (write_more (λ l. l) (item (annotation_text c.args.s.now) (annotation_at c.args.notes.now)) _ _ _ (ap (λ (x : Annotation). comma_before c.loop-k.k ++ annotation_text c.args.s.now x) c.annotation_at-x.ensures) c.loop-k-test.true c.loop-k.invariant) c.put_annotation-l.ensures)
+    let g = c.well_formed in
+    omega (arith, next_sum (write_more (λ l. l) (item (annotation_text c.args.s.now) (annotation_at c.args.notes.now)) _ _ _ (ap (λ (x : Annotation). comma_before c.loop-k.k ++ annotation_text c.args.s.now x) c.annotation_at-x.ensures) c.loop-k-test.true c.loop-k.invariant) (c.put_annotation-l.ensures.count, c.put_annotation-l.ensures.memory))
 
 pub loop-k-preserved : goal.loop-k-preserved
 loop-k-preserved c =
-    writes_next (write_more (λ l. l) (item (annotation_text c.args.s.now) (annotation_at c.args.notes.now)) _ _ _ (ap (λ (x : Annotation). comma_before c.loop-k.k ++ annotation_text c.args.s.now x) c.annotation_at-x.ensures) c.loop-k-test.true c.loop-k.invariant) c.put_annotation-l.ensures
+    writes_next (write_more (λ l. l) (item (annotation_text c.args.s.now) (annotation_at c.args.notes.now)) _ _ _ (ap (λ (x : Annotation). comma_before c.loop-k.k ++ annotation_text c.args.s.now x) c.annotation_at-x.ensures) c.loop-k-test.true c.loop-k.invariant) (c.put_annotation-l.ensures.count, c.put_annotation-l.ensures.memory)
 
 pub shape_of-out : goal.shape_of-out
 shape_of-out c = writes_long c.loop-k.invariant

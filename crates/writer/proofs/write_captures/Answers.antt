@@ -17,8 +17,8 @@ loop-k-init c = writes_none c.args.out.now (whole_part _) c.requires
 pub slice_bounds-put_capture-count : goal.slice_bounds-put_capture-count
 slice_bounds-put_capture-count c = next_from c.loop-k.invariant
 
-pub UNKNOWN-slice-bounds-put-capture-start : goal.UNKNOWN-slice-bounds-put-capture-start
-UNKNOWN-slice-bounds-put-capture-start c = next_from c.loop-k.invariant
+pub slice_bounds-put_capture-start : goal.slice_bounds-put_capture-start
+slice_bounds-put_capture-start c = next_from c.loop-k.invariant
 
 pub put_capture-l-requires : goal.put_capture-l-requires
 put_capture-l-requires c =
@@ -26,12 +26,12 @@ put_capture-l-requires c =
 
 pub overflow_add-used : goal.overflow_add-used
 overflow_add-used c =
-    let g = c.well_formed_lem in
-    omega (arith, next_sum (write_more (λ l. l) (item capture_text (capture_at c.args.caps.now)) _ _ _ (ap (λ (x : Capture). comma_before c.loop-k.k ++ capture_text x) c.capture_at-x.ensures) c.loop-k-test.true c.loop-k.invariant) c.put_capture-l.ensures)
+    let g = c.well_formed in
+    omega (arith, next_sum (write_more (λ l. l) (item capture_text (capture_at c.args.caps.now)) _ _ _ (ap (λ (x : Capture). comma_before c.loop-k.k ++ capture_text x) c.capture_at-x.ensures) c.loop-k-test.true c.loop-k.invariant) (c.put_capture-l.ensures.count, c.put_capture-l.ensures.memory))
 
 pub loop-k-preserved : goal.loop-k-preserved
 loop-k-preserved c =
-    writes_next (write_more (λ l. l) (item capture_text (capture_at c.args.caps.now)) _ _ _ (ap (λ (x : Capture). comma_before c.loop-k.k ++ capture_text x) c.capture_at-x.ensures) c.loop-k-test.true c.loop-k.invariant) c.put_capture-l.ensures
+    writes_next (write_more (λ l. l) (item capture_text (capture_at c.args.caps.now)) _ _ _ (ap (λ (x : Capture). comma_before c.loop-k.k ++ capture_text x) c.capture_at-x.ensures) c.loop-k-test.true c.loop-k.invariant) (c.put_capture-l.ensures.count, c.put_capture-l.ensures.memory)
 
 pub shape_of-out : goal.shape_of-out
 shape_of-out c = writes_long c.loop-k.invariant
