@@ -199,7 +199,7 @@ check_answer() {
 crates_of() {
     awk -v want="$1" '
         { sub(/#.*/, "") }
-        split($0, half, ":") == 2 { gsub(/[ \t]/, "", half[1]); below[half[1]] = half[2] }
+        split($0, half, ":") == 2 { sub(/[ \t].*/, "", half[1]); below[half[1]] = half[2] }
         END {
             n = 1
             todo[1] = want
@@ -253,7 +253,7 @@ build_program() {
         is_current "$program" "$now" && return
     fi
     left=$(cd -- "$top" && crates_of "$1" | wc -l)
-    say "$name: proving and building the program from the sources, $((left)) crates; from nothing this takes 5 to 10 minutes"
+    say "$name: proving and building the program from the sources, $((left)) crates; from nothing this takes 10 to 30 minutes"
     last=$(
         { cd -- "$top/crates/$1" && printf '\n' | rt run 2>&1 3>&- 9>&-; echo "status $?"; } | while IFS= read -r line; do
             case $line in
