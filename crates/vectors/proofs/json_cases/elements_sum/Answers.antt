@@ -1,4 +1,4 @@
-use Rattle.std.proofs.Common.{sym, ap, ◌∙◌, arith, length}
+use Rattle.std.proofs.Common.{sym, ap, ◌∙◌, arith}
 use Rattle.json_walk.specs.Members.{element_found}
 use Rattle.json_walk.proofs.StepLaws.{element_steps}
 use Rattle.vectors.proofs.json_cases.elements_sum.Goals as goal

@@ -1,4 +1,4 @@
-use Rattle.std.proofs.Common.{sym, ap, ◌∙◌, arith, length}
+use Rattle.std.proofs.Common.{sym, ap, ◌∙◌, arith}
 use Rattle.json_walk.specs.Members.{member_found}
 use Rattle.json_walk.proofs.StepLaws.{member_steps}
 use Rattle.vectors.proofs.json_cases.members_sum.Goals as goal
