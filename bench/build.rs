@@ -1,4 +1,4 @@
-// Links the archives that `rt staticlib` writes of export, export_writer, export_stored and export_stream.
+// Links the archives that scripts/staticlib writes of export, export_writer, export_stored and export_stream.
 fn main() {
     let here = std::env::var("CARGO_MANIFEST_DIR").unwrap();
     let dir = format!("{here}/../target/staticlib");

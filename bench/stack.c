@@ -1,7 +1,7 @@
 /* How much stack the judge and the reader take, at most, on texts of several kinds and lengths. A call runs on a stack of its own whose bytes all
    had one value; those that changed were used. From the repository's folder:
 
-       rt staticlib export && cc -o stack bench/stack.c target/staticlib/libexport.a -lpthread && ./stack */
+       scripts/staticlib export && cc -o stack bench/stack.c target/staticlib/libexport.a -lpthread && ./stack */
 #define _GNU_SOURCE
 #include <pthread.h>
 #include <stdio.h>

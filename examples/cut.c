@@ -1,6 +1,6 @@
 /* Writes the metadata of a cut from C:
 
-       rt staticlib export && rt staticlib export_writer
+       scripts/staticlib export export_writer
        cc -o cut examples/cut.c target/staticlib/libexport.a target/staticlib/libexport_writer.a
        ./cut 108 4 12 < examples/gate.sigmf-meta
 

@@ -1,6 +1,6 @@
 /* Lists a recording from C:
 
-       rt staticlib export && rt staticlib export_listing
+       scripts/staticlib export export_listing
        cc -o list examples/list.c target/staticlib/libexport.a target/staticlib/libexport_listing.a
        ./list 108 < examples/gate.sigmf-meta
 

@@ -1,6 +1,6 @@
 /* Looks up member names from C, one a line, raw as they stand between their quotes:
 
-       rt staticlib export_names
+       scripts/staticlib export_names
        cc -o names examples/names.c target/staticlib/libexport_names.a
        printf '%s\n' core:label 'core:\u006cabel' core:gain | ./names
 

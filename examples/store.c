@@ -1,6 +1,6 @@
 /* Keeps the table of a recording in a file, from C:
 
-       rt staticlib export && rt staticlib export_listing && rt staticlib export_stored
+       scripts/staticlib export export_listing export_stored
        cc -o store examples/store.c target/staticlib/libexport.a target/staticlib/libexport_listing.a target/staticlib/libexport_stored.a
        ./store gate.table 108 < examples/gate.sigmf-meta
        ./store gate.table < examples/gate.sigmf-meta

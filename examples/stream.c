@@ -1,6 +1,6 @@
 /* Judges the JSON text on standard input as it arrives, from C:
 
-       rt staticlib export_stream
+       scripts/staticlib export_stream
        cc -o stream examples/stream.c target/staticlib/libexport_stream.a
        { printf '[1,]'; sleep 5; printf '2]'; } | ./stream
 

@@ -199,7 +199,7 @@ check_answer() {
 crates_of() {
     awk -v want="$1" '
         { sub(/#.*/, "") }
-        split($0, half, ":") == 2 { gsub(/[ \t]/, "", half[1]); below[half[1]] = half[2] }
+        split($0, half, ":") == 2 { sub(/[ \t].*/, "", half[1]); below[half[1]] = half[2] }
         END {
             n = 1
             todo[1] = want
@@ -243,7 +243,7 @@ find_program() {
     build_program "$1"
 }
 
-# Proves and builds the program $1 in target/, one call at a time.
+# Proves and builds the program $1 and keeps it in target/bin/, one call at a time.
 build_program() {
     command -v rt > /dev/null || fail "no program here was built from the sources as they are and runs on this machine; rt, which proves and builds it, is not on the PATH: install Rattle, or take the sources back that bin/$1 was built from"
     mkdir -p -- "$top/target/bin" || fail "the folder $(show "$top/target") can't be written, where the program is built"
@@ -253,13 +253,13 @@ build_program() {
         is_current "$program" "$now" && return
     fi
     left=$(cd -- "$top" && crates_of "$1" | wc -l)
-    say "$name: proving and building the program from the sources, $((left)) crates; from nothing this takes 5 to 10 minutes"
+    say "$name: proving and building the program from the sources, $((left)) crates; from nothing this takes 10 to 30 minutes"
     last=$(
-        { cd -- "$top" && rt check "$1" < /dev/null 2>&1 3>&- 9>&-; echo "status $?"; } | while IFS= read -r line; do
+        { cd -- "$top/crates/$1" && printf '\n' | rt run 2>&1 3>&- 9>&-; echo "status $?"; } | while IFS= read -r line; do
             case $line in
-            'rt: '*' proved '*)
+            'rt: chose --jobs '*' for '*)
                 left=$((left - 1))
-                say "$name: ${line#rt: }, $left crates left"
+                say "$name: ${line##* for }, $left crates left"
                 ;;
             *) printf '%s\n' "$line" ;;
             esac
@@ -272,6 +272,7 @@ build_program() {
         fail "the build failed; the lines above are the last that rt wrote"
         ;;
     esac
+    cp -- "$top/crates/$1/out/$1" "$program" || fail "the folder $(show "$top/target/bin") can't be written"
     [ "$(cd -- "$top" && sources_digest "$1")" = "$now" ] || fail "the sources were changed during the build; try again"
     digests "$program" "$now" > "$program.digests" || fail "the folder $(show "$top/target/bin") can't be written"
     is_current "$program" "$now" || fail "the program $(show "$program") was built and does not run on this machine, which is $(uname -sm); it is made for Linux x86_64"

@@ -1,4 +1,4 @@
-/* The judge, the reader and the functions on tables in libexport.a, which `rt staticlib export` writes to target/staticlib/. Numbers of
+/* The judge, the reader and the functions on tables in libexport.a, which `scripts/staticlib export` writes to target/staticlib/. Numbers of
    refusal are document 01's, 13 as request P3 amends it: an extension is listed with `optional` false; 9 is a datatype that is none of
    those below.
 

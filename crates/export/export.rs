@@ -1,4 +1,4 @@
-//! The functions of libexport.a, which `rt staticlib export` writes to target/staticlib/, for Rust. export.h says what each does.
+//! The functions of libexport.a, which `scripts/staticlib export` writes to target/staticlib/, for Rust. export.h says what each does.
 
 /// The twelve numbers of a table, in document 01's order. `datatype` is a code from 0 to 27, and `width` at most 16,384; export.h lists the codes.
 #[repr(C)]

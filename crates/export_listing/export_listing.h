@@ -1,4 +1,4 @@
-/* The label of an annotation and the listing in libexport_listing.a, which `rt staticlib export_listing` writes to target/staticlib/.
+/* The label of an annotation and the listing in libexport_listing.a, which `scripts/staticlib export_listing` writes to target/staticlib/.
    What export.h says of every call holds here too. */
 #ifndef EXPORT_LISTING_H
 #define EXPORT_LISTING_H

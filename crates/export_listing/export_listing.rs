@@ -1,4 +1,4 @@
-//! The functions of libexport_listing.a, which `rt staticlib export_listing` writes to target/staticlib/, for Rust, beside export.rs.
+//! The functions of libexport_listing.a, which `scripts/staticlib export_listing` writes to target/staticlib/, for Rust, beside export.rs.
 //! export_listing.h says what each does.
 
 use crate::export::{Answer, Table};

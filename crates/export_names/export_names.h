@@ -1,4 +1,4 @@
-/* The lookup of member names in libexport_names.a, which `rt staticlib export_names` writes to target/staticlib/. */
+/* The lookup of member names in libexport_names.a, which `scripts/staticlib export_names` writes to target/staticlib/. */
 #ifndef EXPORT_NAMES_H
 #define EXPORT_NAMES_H
 

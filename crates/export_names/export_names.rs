@@ -1,4 +1,4 @@
-//! The functions of libexport_names.a, which `rt staticlib export_names` writes to target/staticlib/, for Rust. export_names.h says what
+//! The functions of libexport_names.a, which `scripts/staticlib export_names` writes to target/staticlib/, for Rust. export_names.h says what
 //! they do.
 
 /// A field's number, or how many fields there are, and how many names were compared.

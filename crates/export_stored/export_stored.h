@@ -1,4 +1,4 @@
-/* Tables kept in files: libexport_stored.a, which `rt staticlib export_stored` writes to target/staticlib/. What export.h says of every
+/* Tables kept in files: libexport_stored.a, which `scripts/staticlib export_stored` writes to target/staticlib/. What export.h says of every
    call holds here too; 21 and 22 are request P5's numbers of refusal.
 
    The stored form: the mark `SGT`, the version 1 in two bytes, the twelve numbers of the summary in its order, the capture rows, the

@@ -1,4 +1,4 @@
-//! The functions of libexport_stored.a, which `rt staticlib export_stored` writes to target/staticlib/, for Rust, beside export.rs.
+//! The functions of libexport_stored.a, which `scripts/staticlib export_stored` writes to target/staticlib/, for Rust, beside export.rs.
 //! export_stored.h says what each does.
 
 use crate::export::{Answer, Summary, Table};

@@ -1,4 +1,4 @@
-/* A JSON text judged as it arrives, chunk by chunk: libexport_stream.a, which `rt staticlib export_stream` writes to target/staticlib/. The
+/* A JSON text judged as it arrives, chunk by chunk: libexport_stream.a, which `scripts/staticlib export_stream` writes to target/staticlib/. The
    text may be divided anywhere, inside a character or a number too, and chunks of no bytes are allowed. Nothing is kept but the state,
    which goes from call to call by value and may be stored in between.
 

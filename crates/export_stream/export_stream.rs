@@ -1,4 +1,4 @@
-//! The functions of libexport_stream.a, which `rt staticlib export_stream` writes to target/staticlib/, for Rust. export_stream.h says
+//! The functions of libexport_stream.a, which `scripts/staticlib export_stream` writes to target/staticlib/, for Rust. export_stream.h says
 //! what each does.
 
 /// The state between two chunks.

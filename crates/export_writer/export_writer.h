@@ -1,4 +1,4 @@
-/* The metadata of a table in libexport_writer.a, which `rt staticlib export_writer` writes to target/staticlib/.
+/* The metadata of a table in libexport_writer.a, which `scripts/staticlib export_writer` writes to target/staticlib/.
    What export.h says of every call holds here too. */
 #ifndef EXPORT_WRITER_H
 #define EXPORT_WRITER_H

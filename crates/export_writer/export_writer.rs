@@ -1,4 +1,4 @@
-//! The function of libexport_writer.a, which `rt staticlib export_writer` writes to target/staticlib/, for Rust, beside export.rs.
+//! The function of libexport_writer.a, which `scripts/staticlib export_writer` writes to target/staticlib/, for Rust, beside export.rs.
 //! export_writer.h says what it does.
 
 use crate::export::{Answer, Table};

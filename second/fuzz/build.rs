@@ -1,4 +1,4 @@
-// Links the archives that `rt staticlib` writes of the export crates.
+// Links the archives that scripts/staticlib writes of the export crates.
 fn main() {
     let here = std::env::var("CARGO_MANIFEST_DIR").unwrap();
     let dir = format!("{here}/../../target/staticlib");

@@ -7,25 +7,29 @@ use first_line::{FirstLine, after, first_line};
 use limits::Limits;
 use listing_output::{ANNOTATIONS, CAPTURES, print_listing};
 use reader::read;
-use standard_streams::{is_unread, refuse};
+use standard_streams::{is_unread, read_full, refuse};
 use table::{Annotation, Capture};
 
 // One byte more than the longest input, to tell a longer one.
 const INPUT: usize = first_line::LONGEST + Limits::METADATA + 1;
 
-fn main() {
+fn main(rt: HostRuntime) {
     let mut input = [0u8; INPUT];
-    let n = io::read_full(0, &mut input);
+    let n = read_full(&mut rt.stdin(), &mut input);
     if is_short(n) {
-        if is_unread() {
-            io::write_all(2, b"burst_list: the input could not be read to its end\n");
+        if is_unread(&mut rt.stdin()) {
+            let _ = rt
+                .stderr()
+                .write_all(b"burst_list: the input could not be read to its end\n");
             return;
         }
     }
-    if run(&input[..n]) {
+    if run(rt, &input[..n]) {
         return;
     }
-    io::write_all(2, b"burst_list: the answer could not be written\n");
+    let _ = rt
+        .stderr()
+        .write_all(b"burst_list: the answer could not be written\n");
 }
 
 // An input of n bytes is no longer than a first line and the longest metadata.
@@ -38,17 +42,17 @@ fn is_short(n: usize) -> bool {
 }
 
 // Answers an input; whether the answer was written.
-fn run(input: &[u8]) -> bool {
+fn run(rt: HostRuntime, input: &[u8]) -> bool {
     let f = first_line(input);
     let FirstLine::Size(d, at) = f else {
-        return refuse(1, 1);
+        return refuse(&rt, 1);
     };
-    list(after(input, at), d)
+    list(rt, after(input, at), d)
 }
 
-fn list(metadata: &[u8], d: u64) -> bool {
+fn list(rt: HostRuntime, metadata: &[u8], d: u64) -> bool {
     let mut captures = [0u64; CAPTURES * Capture::WIDTH];
     let mut annotations = [0u64; ANNOTATIONS * Annotation::WIDTH];
     let t = read(metadata, d, &mut captures, &mut annotations);
-    print_listing(t, &captures, &annotations, metadata)
+    print_listing(&rt, t, &captures, &annotations, metadata)
 }

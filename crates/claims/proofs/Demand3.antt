@@ -13,7 +13,7 @@ use Rattle.reader.specs.Reading.{read_answer}
 use Rattle.claims_accepted.proofs.Accepted.{accepted_formed, summary_is}
 use Rattle.claims.specs.Demand3.{recording_read, WholeDemand3}
 
--- of every well_formed_lem table with its dataset
+-- of every well-formed table with its dataset
 whole : (z : Held) → Ok z → WholeDemand3 z
 whole z g = record {
   captures = captured z.table.summary z.table.captures z.table.annotations g.accepted_table;

@@ -61,7 +61,7 @@ pub record StoredAgain (f caps notes m : List ℕ) : Type 0 where
 
 -- ---- the claim
 pub record StoredTables : Type 0 where
-  -- of every well_formed_lem table, whether it comes from a recording or not, with room; no memory has 2^64 bytes
+  -- of every well-formed table, whether it comes from a recording or not, with room; no memory has 2^64 bytes
   pub every : (t : Table) → well_formed t ≡ true → (m : List ℕ) → length (stored_of t) ≤ length m → length m < 2 ^ 64 → Stored t m
   -- of every file that is loaded, whether it was stored here or not
   pub again : (f : List ℕ) → ((i : ℕ) → get_or f i 0 < 256) → (caps notes : List ℕ) → (load_answer f (length caps) (length notes)).refusal ≡ 0

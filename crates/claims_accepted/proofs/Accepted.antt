@@ -1,4 +1,4 @@
--- An accepted recording is a well_formed_lem table, whose rows are those that its metadata give.
+-- An accepted recording is a well-formed table, whose rows are those that its metadata give.
 use Prim.Native.Nat.{ℕ, ◌+◌, ◌-◌, ◌≤◌}
 use mathlib.Core.Path.{◌≡◌, refl, sym, ◌∙◌}
 use mathlib.Core.Bool.{Bool, true, false, cond, not, ◌||◌, false≢true}

@@ -1,4 +1,4 @@
--- The plan of a well_formed_lem table whose texts stand, and its bytes.
+-- The plan of a well-formed table whose texts stand, and its bytes.
 use mathlib.Core.Path.{◌≡◌, refl, sym, ap, ◌∙◌}
 use mathlib.Core.Bool.{Bool, true, false, ◌&&◌, ◌||◌}
 use mathlib.Core.List.{List, [], ◌∷◌, map, append-nil}

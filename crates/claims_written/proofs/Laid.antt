@@ -1,4 +1,4 @@
--- Contents that agree with a well_formed_lem table are laid out as the table, and neither 15, 16, 17 nor 20 holds.
+-- Contents that agree with a well-formed table are laid out as the table, and neither 15, 16, 17 nor 20 holds.
 use mathlib.Core.Path.{◌≡◌, ◌∙◌}
 use mathlib.Core.Bool.{false}
 use mathlib.Core.List.{List}

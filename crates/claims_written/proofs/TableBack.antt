@@ -1,4 +1,4 @@
--- The rows of a well_formed_lem table, laid out again from what is written of them.
+-- The rows of a well-formed table, laid out again from what is written of them.
 use mathlib.Core.Path.{◌≡◌, refl, sym, ap, ◌∙◌}
 use mathlib.Core.Bool.{true, ◌&&◌}
 use mathlib.Core.List.{List, [], ◌∷◌, map}

@@ -84,7 +84,7 @@ module _ {t : Table} {s w : List ℕ} (caps notes : List ℕ) (u : Text nesting 
         };
       }
 
--- ---- the format of a well_formed_lem table
+-- ---- the format of a well-formed table
 record Format (t : Summary) : Type 0 where
   code : is_listed t.datatype ≡ true
   channelled : within 1 channels t.channels ≡ true

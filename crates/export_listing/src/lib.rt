@@ -1,5 +1,6 @@
-// The label of an annotation and the listing, for C and Rust to call. The header is export_listing.h. They stand apart from the crate
-// `export`, since the compiler then makes a faster judge of strings that are not ASCII there.
+// The label of an annotation and the listing, as C and Rust call them through the static library `export_listing_c`. The header is
+// export_listing.h. They stand apart from the crate `export`, since the compiler then makes a faster judge of strings that are not ASCII
+// there.
 #![tactic(auto)]
 
 ghost use Rattle.std.specs.Prelude.{◌≡◌, length};
@@ -19,14 +20,7 @@ pub struct Labelled {
 }
 
 // The label of annotation n.
-#[unsafe(no_mangle)]
-pub extern "C" fn table_label(
-    t: Summary,
-    caps: &[u64],
-    notes: &[u64],
-    text: &[u8],
-    n: u64,
-) -> Labelled
+pub fn table_label(t: Summary, caps: &[u64], notes: &[u64], text: &[u8], n: u64) -> Labelled
     ensures { result ≡ labelled (table t caps.now notes.now) text.now n }
 {
     let mut refusal = 0u64;
@@ -52,14 +46,7 @@ pub extern "C" fn table_label(
 }
 
 // The listing of a table, written to the front of out.
-#[unsafe(no_mangle)]
-pub extern "C" fn table_listing(
-    t: Summary,
-    caps: &[u64],
-    notes: &[u64],
-    text: &[u8],
-    out: &mut [u8],
-) -> Wrote
+pub fn table_listing(t: Summary, caps: &[u64], notes: &[u64], text: &[u8], out: &mut [u8]) -> Wrote
     ensures answer { result ≡ listing_answer (table t caps.now notes.now) text.now (length out.old) }
     ensures memory { out.new ≡ listing_memory (table t caps.now notes.now) text.now out.old }
 {

@@ -7,58 +7,64 @@
 use first_line::{FirstLine, after, first_line};
 use limits::Limits;
 use listing_output::{ANNOTATIONS, CAPTURES, print_listing};
-use standard_streams::{is_unread, refuse};
+use standard_streams::{is_unread, read_full, refuse};
 use table::{Annotation, Capture};
 use table_stored::{LONGEST, load};
 
 // One byte more than the longest input, to tell a longer one.
 const INPUT: usize = first_line::LONGEST + LONGEST + Limits::METADATA + 1;
 
-fn main() {
+fn main(rt: HostRuntime) {
     let mut input = [0u8; INPUT];
-    let n = io::read_full(0, &mut input);
+    let n = read_full(&mut rt.stdin(), &mut input);
     if n < INPUT {
-        if is_unread() {
-            io::write_all(2, b"list_table: the input could not be read to its end\n");
+        if is_unread(&mut rt.stdin()) {
+            let _ = rt
+                .stderr()
+                .write_all(b"list_table: the input could not be read to its end\n");
             return;
         }
     }
-    if run(&input[..n]) {
+    if run(rt, &input[..n]) {
         return;
     }
-    io::write_all(2, b"list_table: the answer could not be written\n");
+    let _ = rt
+        .stderr()
+        .write_all(b"list_table: the answer could not be written\n");
 }
 
 // Answers an input; whether the answer was written.
-fn run(input: &[u8]) -> bool {
+fn run(rt: HostRuntime, input: &[u8]) -> bool {
     let f = first_line(input);
     let FirstLine::Size(n, at) = f else {
-        return refuse(1, 1);
+        return refuse(&rt, 1);
     };
-    divide(after(input, at), n as usize)
+    divide(rt, after(input, at), n as usize)
 }
 
 // The table is the first n bytes, and the metadata is the rest.
-fn divide(bytes: &[u8], n: usize) -> bool {
+fn divide(rt: HostRuntime, bytes: &[u8], n: usize) -> bool {
     if n > LONGEST {
-        return no_such_table();
+        return no_such_table(rt);
     }
     if n > bytes.len() {
-        return no_such_table();
+        return no_such_table(rt);
     }
     if bytes.len() - n > Limits::METADATA {
-        return refuse(1, 1);
+        return refuse(&rt, 1);
     }
-    list(&bytes[0..n], &bytes[n..])
+    list(rt, &bytes[0..n], &bytes[n..])
 }
 
-fn no_such_table() -> bool {
-    io::write_all(2, b"list_table: the input holds no table of that length\n")
+fn no_such_table(rt: HostRuntime) -> bool {
+    rt.stderr()
+        .write_all(b"list_table: the input holds no table of that length\n")
+        .is_ok()
 }
 
-fn list(file: &[u8], metadata: &[u8]) -> bool {
+fn list(rt: HostRuntime, file: &[u8], metadata: &[u8]) -> bool {
     let mut captures = [0u64; CAPTURES * Capture::WIDTH];
     let mut annotations = [0u64; ANNOTATIONS * Annotation::WIDTH];
     let t = load(file, &mut captures, &mut annotations);
-    print_listing(t, &captures, &annotations, metadata)
+    print_listing(&rt, t, &captures, &annotations, metadata)
 }

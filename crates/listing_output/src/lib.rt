@@ -13,14 +13,20 @@ pub const ANNOTATIONS: usize = 1024;
 pub const OUTPUT: usize = 61440;
 
 // Prints the listing of a table, or `refused` and a number: the table's, if it is a refusal, or the listing's. Whether all was written.
-pub fn print_listing(t: Summary, captures: &[u64], annotations: &[u64], metadata: &[u8]) -> bool {
+pub fn print_listing<P: Print>(
+    to: &P,
+    t: Summary,
+    captures: &[u64],
+    annotations: &[u64],
+    metadata: &[u8],
+) -> bool {
     if t.refusal != 0 {
-        return refuse(1, t.refusal);
+        return refuse(to, t.refusal);
     }
     let mut out = [0u8; OUTPUT];
     let l = listing(t, captures, annotations, metadata, &mut out);
     if l.refusal != 0 {
-        return refuse(1, l.refusal);
+        return refuse(to, l.refusal);
     }
-    write_first(1, &out, l.count as usize)
+    write_first(to, &out, l.count as usize)
 }

@@ -1,4 +1,4 @@
--- A recording that is laid out is a well_formed_lem table, and its rows are read back.
+-- A recording that is laid out is a well-formed table, and its rows are read back.
 use Prim.Native.Nat.{ℕ, ◌+◌, ◌-◌, ◌*◌, ◌≤◌}
 use mathlib.Core.Path.{◌≡◌, refl, sym, ap, ◌∙◌}
 use mathlib.Core.Bool.{Bool, true, false, cond}
@@ -161,7 +161,7 @@ module _ (k : Contents) (d : ℕ) (caps notes : List ℕ) where
       unfolding layout_answer
       is = rw e
 
-      -- a recording that is laid out is a well_formed_lem table, and its rows are read back
+      -- a recording that is laid out is a well-formed table, and its rows are read back
       pub laid_out_lem : LaidOut k d caps notes
       unfolding summary_in
       laid_out_lem = record {

@@ -18,7 +18,7 @@ places_ok k = ends_within k.globals.rate && entry_texts_ok k.annotations
 abbrev pub table_after : Contents → ℕ → List ℕ → List ℕ → Table
 table_after k d caps notes = table (layout_answer k d caps notes) (captures_after k d caps notes) (annotations_after k d caps notes)
 
--- the answer is the recording's summary; with the memory after it, it is a well_formed_lem table, whose rows are the recording's
+-- the answer is the recording's summary; with the memory after it, it is a well-formed table, whose rows are the recording's
 pub record LaidOut (k : Contents) (d : ℕ) (caps notes : List ℕ) : Type 0 where
   pub answer : layout_answer k d caps notes ≡ summary_in k d
   pub table : well_formed (table_after k d caps notes) ≡ true

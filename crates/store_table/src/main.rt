@@ -6,55 +6,59 @@
 use first_line::{FirstLine, after, first_line};
 use limits::Limits;
 use reader::read;
-use standard_streams::{is_unread, refuse, write_first, write_line};
+use standard_streams::{is_unread, read_full, refuse, write_first, write_line};
 use table::{Annotation, Capture, Summary};
 use table_stored::{ENTRIES, LONGEST, store};
 
 // One byte more than the longest input, to tell a longer one.
 const INPUT: usize = first_line::LONGEST + Limits::METADATA + 1;
 
-fn main() {
+fn main(rt: HostRuntime) {
     let mut input = [0u8; INPUT];
-    let n = io::read_full(0, &mut input);
+    let n = read_full(&mut rt.stdin(), &mut input);
     if n < INPUT {
-        if is_unread() {
-            io::write_all(2, b"store_table: the input could not be read to its end\n");
+        if is_unread(&mut rt.stdin()) {
+            let _ = rt
+                .stderr()
+                .write_all(b"store_table: the input could not be read to its end\n");
             return;
         }
     }
-    if run(&input[..n]) {
+    if run(rt, &input[..n]) {
         return;
     }
-    io::write_all(2, b"store_table: the table could not be written\n");
+    let _ = rt
+        .stderr()
+        .write_all(b"store_table: the table could not be written\n");
 }
 
 // Answers an input; whether the answer was written.
-fn run(input: &[u8]) -> bool {
+fn run(rt: HostRuntime, input: &[u8]) -> bool {
     let f = first_line(input);
     let FirstLine::Size(d, at) = f else {
-        return refuse(2, 1);
+        return refuse(&rt.stderr(), 1);
     };
-    store_recording(after(input, at), d)
+    store_recording(rt, after(input, at), d)
 }
 
-fn store_recording(metadata: &[u8], d: u64) -> bool {
+fn store_recording(rt: HostRuntime, metadata: &[u8], d: u64) -> bool {
     let mut captures = [0u64; ENTRIES * Capture::WIDTH];
     let mut annotations = [0u64; ENTRIES * Annotation::WIDTH];
     let t = read(metadata, d, &mut captures, &mut annotations);
     if t.refusal != 0 {
-        return refuse(2, t.refusal);
+        return refuse(&rt.stderr(), t.refusal);
     }
-    write_table(t, &captures, &annotations)
+    write_table(rt, t, &captures, &annotations)
 }
 
-fn write_table(t: Summary, captures: &[u64], annotations: &[u64]) -> bool {
+fn write_table(rt: HostRuntime, t: Summary, captures: &[u64], annotations: &[u64]) -> bool {
     let mut out = [0u8; LONGEST];
     let s = store(t, captures, annotations, &mut out);
     if s.refusal != 0 {
-        return refuse(2, s.refusal);
+        return refuse(&rt.stderr(), s.refusal);
     }
-    if write_first(1, &out, s.count as usize) {
-        return write_line(2, b"stored ", s.count);
+    if write_first(&rt, &out, s.count as usize) {
+        return write_line(&rt.stderr(), b"stored ", s.count);
     }
     false
 }

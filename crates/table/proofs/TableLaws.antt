@@ -1,4 +1,4 @@
--- Laws of the judge of a table, and what a well_formed_lem table tells.
+-- Laws of the judge of a table, and what a well-formed table tells.
 use Prim.Native.Nat.{ℕ, zero, suc, ◌+◌, ◌-◌, ◌*◌, ◌/◌, ◌≤◌, ◌<◌, ◌^◌}
 use mathlib.Core.Path.{◌≡◌, refl, sym, ap, ◌∙◌, subst}
 use mathlib.Core.Bool.{Bool, true, false, cond, ◌&&◌, false≢true}
@@ -359,7 +359,7 @@ module _ (t : Summary) where
             let k : t.offset + t.samples ≤ 2 ^ 64 - 1 = omega arith in
             rw (eq-eqb _ _ a, sym e ∙ b, le-leb _ _ fits, le-leb _ _ k) s
 
--- ---- a well_formed_lem table
+-- ---- a well-formed table
 pub record Formed (t : Summary) (caps notes : List ℕ) : Type 0 where
   pub nums : Numbers t
   pub laid : Laid t caps
@@ -426,7 +426,7 @@ unfolding numbers_ok
 numbers_true t n = rw (eq-eqb _ _ n.said, n.format, le-leb _ _ n.small, le-leb _ _ n.ends, n.rate)
 
 module _ (t : Summary) (caps notes : List ℕ) where
-  -- what no well_formed_lem table has
+  -- what no well-formed table has
   bad : (Formed t caps notes → ⊥) → false ≡ well_formed (table t caps notes)
   bad f = same_test false (well_formed (table t caps notes)) (λ z. absurd (false≢true z)) (λ z e. f (formed t caps notes e))
 

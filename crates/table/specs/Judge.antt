@@ -44,7 +44,7 @@ layout_ok t rs =
 abbrev pub summed : Bool → ℕ → ℕ → Sum
 summed good cap s = cond (good && leb s cap) (record { ok = true; total = s }) (record { ok = false; total = 0 })
 
--- what a well_formed_lem table says of its captures, as the cores of the functions ask it
+-- what a well-formed table says of its captures, as the cores of the functions ask it
 pub record Laid (t : Summary) (caps : List ℕ) : Type 0 where
   pub fit : capture_width * t.captures ≤ length caps
   pub total : t.trailing + header_sum (own_entries (captures caps t.captures)) + t.samples * t.width ≡ t.size

@@ -463,7 +463,7 @@ fn bytes_before(i: u64, o: u64, w: u64) -> u64
     (i - o) * w
 }
 
-// Where sample i of a well_formed_lem table starts.
+// Where sample i of a well-formed table starts.
 pub(crate) fn sample_place(t: Summary, caps: &[u64], i: u64) -> u64
     requires { Laid t caps.now × (is_sample t i ≡ true) }
     ensures { result ≡ place_in (table t caps.now []) i }

@@ -1,4 +1,4 @@
--- A cut of a well_formed_lem table is well formed, in whatever memory its rows stand; cutting it again is cutting the first.
+-- A cut of a well-formed table is well formed, in whatever memory its rows stand; cutting it again is cutting the first.
 use Prim.Native.Nat.{ℕ, zero, suc, ◌+◌, ◌-◌, ◌*◌, ◌≤◌, ◌<◌, ◌^◌, min, max}
 use mathlib.Core.Path.{◌≡◌, refl, sym, ap, ◌∙◌}
 use mathlib.Core.Bool.{Bool, true, false, cond, ◌&&◌}

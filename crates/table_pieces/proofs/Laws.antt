@@ -1,4 +1,4 @@
--- The laws of pieces, for every well_formed_lem table.
+-- The laws of pieces, for every well-formed table.
 use Prim.Native.Nat.{ℕ, ◌+◌, ◌-◌, ◌≤◌, ◌<◌}
 use mathlib.Core.Path.{◌≡◌}
 use mathlib.Core.Bool.{true}

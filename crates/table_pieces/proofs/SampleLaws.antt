@@ -88,7 +88,7 @@ module _ (f : ℕ → ℕ) (w : ℕ) (d : List ℕ) where
       = rw (h c (omega arith) (omega arith)) (sample_kept a b c p (omega arith) z) in
       rw here (ap (λ (l : List ℕ). take w (drop (f c) d) ++ l) (copy_from g a b m (suc c) (omega arith) (omega arith) z (λ j x y. h j (omega arith) (omega arith))))
 
--- ---- of a well_formed_lem table with its dataset
+-- ---- of a well-formed table with its dataset
 -- sample j lies before the trailer
 pub before_trailer : (t : Summary) (l : List ℕ) → Laid t l → (j : ℕ) → t.offset ≤ j → j < t.offset + t.samples → place_in (table t l []) j + t.width + t.trailing ≤ t.size
 unfolding place

@@ -1,4 +1,4 @@
--- What holds of pieces, cuts and copies of a range, for every well_formed_lem table with its dataset.
+-- What holds of pieces, cuts and copies of a range, for every well-formed table with its dataset.
 use Prim.Native.Nat.{ℕ, ◌-◌, ◌*◌, ◌≤◌, ◌<◌}
 use mathlib.Core.Path.{◌≡◌, refl, sym, ap, ◌∙◌}
 use mathlib.Core.Bool.{Bool, true, false, ◌&&◌, cond}
@@ -30,7 +30,7 @@ use Rattle.table_steps.specs.Ranges.{Runs, Pieces, Room, Joined, Cuts, Copies, O
 use Rattle.table_steps.proofs.CountLaws.{few_pieces, few_captures_lem, few_annotations_lem}
 use Rattle.table_steps.proofs.UniqueLaws.{unique}
 
--- a well_formed_lem table with its dataset
+-- a well-formed table with its dataset
 pub record Ok (s : Held) : Type 0 where
   pub accepted_table : well_formed s.table ≡ true
   pub long : length s.bytes ≡ s.table.summary.size
@@ -62,7 +62,7 @@ copy_of y m = record {
 copy_room : (y m : List ℕ) → length y ≤ length m → copy_of y m ≡ record { answer = wrote 0 (length y); memory = written y m }
 copy_room y m h = rw (le-leb _ _ h)
 
--- ---- the answers of a well_formed_lem table, for a range inside and one outside
+-- ---- the answers of a well-formed table, for a range inside and one outside
 module _ (t : Summary) (caps notes : List ℕ) (e : well_formed (table t caps notes) ≡ true) (a b : ℕ) where
   module _ (f : inside t a b ≡ true) where
     pieces_room : (m : List ℕ) → 2 * length (pieces_in (table t caps []) a b) ≤ length m → pieces_answer (table t caps notes) a b (length m) ≡ wrote 0 (length (pieces_in (table t caps []) a b))

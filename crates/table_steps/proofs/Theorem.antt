@@ -1,4 +1,4 @@
--- Demand 3, for every list of steps on every well_formed_lem table with its dataset.
+-- Demand 3, for every list of steps on every well-formed table with its dataset.
 use Prim.Native.Nat.{ℕ, ◌+◌, ◌*◌, ◌≤◌, ◌<◌}
 use mathlib.Core.Path.{◌≡◌, refl, sym, ap, ◌∙◌}
 use mathlib.Core.Bool.{Bool, true, false, ◌&&◌, cond}

@@ -63,7 +63,7 @@ pub record Cuts (z : Held) (a b : ℕ) : Type 0 where
   -- 20 otherwise
   pub short : (m k : List ℕ) → (length m < capture_width * length (the_cut z a b).captures) ⊎ (length k < annotation_width * length (the_cut z a b).annotations)
       → cut_call z a b m k ≡ record { summary = no_table 20; captures = m; annotations = k }
-  -- the summary with the rows read back off the memories is the cut, and a well_formed_lem table
+  -- the summary with the rows read back off the memories is the cut, and a well-formed table
   pub back : (m k : List ℕ) → (cut_call z a b m k).summary.refusal ≡ 0 → cut_back z a b m k ≡ the_cut z a b
   pub formed : (m k : List ℕ) → (cut_call z a b m k).summary.refusal ≡ 0
       → well_formed (cut_call z a b m k) ≡ true

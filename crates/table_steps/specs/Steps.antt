@@ -106,7 +106,7 @@ pub record Demand3 (z : Held) (ks : List Step) : Type 0 where
   pub same : accepts z ks ≡ model z none (all_sizes ks)
   -- at the end all is as after one direct cut and copy to the last accepted range
   pub end : seen (run z ks) ≡ direct z (last z none (all_sizes ks))
-  -- a well_formed_lem table with a dataset of its length
+  -- a well-formed table with a dataset of its length
   pub formed : well_formed (run z ks).table ≡ true
   pub long : length (run z ks).bytes ≡ (run z ks).table.summary.size
   -- its range is the last accepted one, and each sample of it has the bytes that it had

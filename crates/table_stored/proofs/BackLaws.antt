@@ -34,7 +34,7 @@ use Rattle.table_stored.specs.Form.{opening, opening_size, head_size, eight_each
 use Rattle.table_stored.specs.Load.{opens, length_ok}
 use Rattle.table_stored.proofs.FormLaws.{Small, small_append, numbers_exact, numbers_back, eight_back, captures_front, annotations_front, opening_length, summary_length, captures_length, annotations_length, capture_bytes_lem, stored_length}
 
--- ---- the numbers of a well_formed_lem table fit in eight bytes
+-- ---- the numbers of a well-formed table fit in eight bytes
 place_ends : (p : Place) → ends_within p ≡ true → p.at + p.len ≤ metadata
 unfolding ends_within
 place_ends p e = leb-true _ _ e

@@ -11,74 +11,81 @@ use sigmf_texts::form::name_form;
 use sigmf_texts::{NameForm, datatype, is_version};
 use sigmf_values::value::{has_type, uint};
 use sigmf_values::{FieldType, Uint};
+use std::io::Stdout;
 
 // `u`: whether a value is a uint, and which.
-pub(crate) fn answer_uint(part: &[u8]) -> bool {
+pub(crate) fn answer_uint(to: Stdout, part: &[u8]) -> bool {
     let u = uint(part);
     match u {
-        Uint::Value(x) => one(b"u 1", x),
-        Uint::Bad => line(b"u 0"),
+        Uint::Value(x) => one(to, b"u 1", x),
+        Uint::Bad => line(to, b"u 0"),
     }
 }
 
 // `d`: the code of a datatype's text.
-pub(crate) fn answer_datatype(part: &[u8]) -> bool {
-    one(b"d", datatype(part))
+pub(crate) fn answer_datatype(to: Stdout, part: &[u8]) -> bool {
+    one(to, b"d", datatype(part))
 }
 
 // `v`: whether a version can be read.
-pub(crate) fn answer_version(part: &[u8]) -> bool {
-    one(b"v", flag(is_version(part)))
+pub(crate) fn answer_version(to: Stdout, part: &[u8]) -> bool {
+    one(to, b"v", flag(is_version(part)))
 }
 
 // `m`: whether a text is a datetime, its numbers and its fraction's digits.
-pub(crate) fn answer_datetime(part: &[u8]) -> bool {
+pub(crate) fn answer_datetime(to: Stdout, part: &[u8]) -> bool {
     let r = datetime(part);
     let Datetime::At(d, c, p) = r else {
-        return line(b"m 0");
+        return line(to, b"m 0");
     };
-    print_date(d);
-    print_clock(c);
-    print_sum(b"", sum_decoded(part, p, b'Z' as u64))
+    print_date(to, d);
+    print_clock(to, c);
+    print_sum(to, b"", sum_decoded(part, p, b'Z' as u64))
 }
 
-fn print_date(d: Date) {
-    word(b"m 1");
-    number(d.year);
-    number(d.month);
-    number(d.day);
+fn print_date(to: Stdout, d: Date) {
+    word(to, b"m 1");
+    number(to, d.year);
+    number(to, d.month);
+    number(to, d.day);
 }
 
-fn print_clock(c: Clock) {
-    number(c.hour);
-    number(c.minute);
-    number(c.second);
+fn print_clock(to: Stdout, c: Clock) {
+    number(to, c.hour);
+    number(to, c.minute);
+    number(to, c.second);
 }
 
 // `n`: whether a name has the form, and the part after its colon.
-pub(crate) fn answer_form(raw: &[u8]) -> bool {
+pub(crate) fn answer_form(to: Stdout, raw: &[u8]) -> bool {
     let r = name_form(raw);
     let NameForm::After(p) = r else {
-        return line(b"n 0");
+        return line(to, b"n 0");
     };
-    print_sum(b"n 1", sum_decoded(raw, p, NONE))
+    print_sum(to, b"n 1", sum_decoded(raw, p, NONE))
 }
 
 // `g`, `c`, `a`: the number and the type of the core field with a name, and how many names were compared with it.
-pub(crate) fn answer_name(letter: u8, raw: &[u8]) -> bool {
+pub(crate) fn answer_name(to: Stdout, letter: u8, raw: &[u8]) -> bool {
     if letter == b'g' {
-        return print_field(b"g", Object::Global, raw);
+        return print_field(to, b"g", Object::Global, raw);
     }
     if letter == b'c' {
-        return print_field(b"c", Object::Capture, raw);
+        return print_field(to, b"c", Object::Capture, raw);
     }
-    print_field(b"a", Object::Annotation, raw)
+    print_field(to, b"a", Object::Annotation, raw)
 }
 
-fn print_field(w: &[u8], kind: Object, raw: &[u8]) -> bool {
+fn print_field(to: Stdout, w: &[u8], kind: Object, raw: &[u8]) -> bool {
     let r = look_up(kind, raw);
     let wanted = field_type(kind, r.number);
-    three(w, r.number as u64, type_number(wanted), r.compared as u64)
+    three(
+        to,
+        w,
+        r.number as u64,
+        type_number(wanted),
+        r.compared as u64,
+    )
 }
 
 fn type_number(wanted: FieldType) -> u64 {
@@ -94,27 +101,27 @@ fn type_number(wanted: FieldType) -> u64 {
 }
 
 // `k`: whether a value is of each of six types.
-pub(crate) fn answer_types(part: &[u8]) -> bool {
-    word(b"k");
-    print_type(FieldType::Text, part);
-    print_type(FieldType::Uint, part);
-    print_type(FieldType::Double, part);
-    print_type(FieldType::Boolean, part);
-    print_type(FieldType::Object, part);
-    print_type(FieldType::Array, part);
-    end()
+pub(crate) fn answer_types(to: Stdout, part: &[u8]) -> bool {
+    word(to, b"k");
+    print_type(to, FieldType::Text, part);
+    print_type(to, FieldType::Uint, part);
+    print_type(to, FieldType::Double, part);
+    print_type(to, FieldType::Boolean, part);
+    print_type(to, FieldType::Object, part);
+    print_type(to, FieldType::Array, part);
+    end(to)
 }
 
-fn print_type(wanted: FieldType, part: &[u8]) -> bool {
-    number(flag(has_type(wanted, part)))
+fn print_type(to: Stdout, wanted: FieldType, part: &[u8]) -> bool {
+    number(to, flag(has_type(wanted, part)))
 }
 
 // `x`: an extension entry may be ignored, is malformed or is needed.
-pub(crate) fn answer_extension(part: &[u8]) -> bool {
+pub(crate) fn answer_extension(to: Stdout, part: &[u8]) -> bool {
     let e = extension(part);
     match e {
-        Extension::Ignored => line(b"x 0"),
-        Extension::Malformed => line(b"x 12"),
-        Extension::Needed => line(b"x 13"),
+        Extension::Ignored => line(to, b"x 0"),
+        Extension::Malformed => line(to, b"x 12"),
+        Extension::Needed => line(to, b"x 13"),
     }
 }

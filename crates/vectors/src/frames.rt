@@ -1,5 +1,8 @@
 ghost use Rattle.std.specs.Prelude.{◌≡◌};
 
+use standard_streams::read_full;
+use std::io::Stdin;
+
 // The next byte of standard input.
 #[derive(Clone, Copy)]
 pub enum Input {
@@ -22,9 +25,9 @@ pub enum Header {
     Broken,
 }
 
-fn read_byte() -> Input {
+fn read_byte(mut from: Stdin) -> Input {
     let mut b = [0u8; 1];
-    let n = io::read_full(0, &mut b);
+    let n = read_full(&mut from, &mut b);
     if n == 0 {
         return Input::End;
     }
@@ -38,11 +41,11 @@ fn wide(b: u8) -> usize
 }
 
 // One to seven digits and a line feed.
-fn read_length() -> Length {
+fn read_length(from: Stdin) -> Length {
     let mut n = 0usize;
     let mut turns = 0usize;
     while turns < 8 {
-        let r = read_byte();
+        let r = read_byte(from);
         let Input::Byte(b) = r else {
             return Length::Broken;
         };
@@ -67,19 +70,19 @@ fn read_length() -> Length {
     Length::Broken
 }
 
-pub(crate) fn read_header() -> Header {
-    let r = read_byte();
+pub(crate) fn read_header(from: Stdin) -> Header {
+    let r = read_byte(from);
     let Input::Byte(letter) = r else {
         return Header::End;
     };
-    let q = read_byte();
+    let q = read_byte(from);
     let Input::Byte(blank) = q else {
         return Header::Broken;
     };
     if blank != b' ' {
         return Header::Broken;
     }
-    let l = read_length();
+    let l = read_length(from);
     let Length::Of(n) = l else {
         return Header::Broken;
     };

@@ -3,43 +3,44 @@ use crate::sum::{EMPTY, Sum, mix, print_sum};
 use json_blocks::{Cursor, peek};
 use json_judge::{Judged, judge};
 use json_walk::{Element, ElementStep, Member, MemberStep, next_element, next_member};
+use std::io::Stdout;
 
 // `j`: the refusal of a text; or its top-level value's kind, how many parts that has, and the checksum of their places.
-pub(crate) fn answer(s: &[u8]) -> bool {
+pub(crate) fn answer(to: Stdout, s: &[u8]) -> bool {
     let j = judge(s);
     match j {
-        Judged::Good => top(s),
-        Judged::NotJson => line(b"j 2"),
-        Judged::BadMembers => line(b"j 3"),
+        Judged::Good => top(to, s),
+        Judged::NotJson => line(to, b"j 2"),
+        Judged::BadMembers => line(to, b"j 3"),
     }
 }
 
-fn top(s: &[u8]) -> bool {
+fn top(to: Stdout, s: &[u8]) -> bool {
     let c = Cursor { at: 0 }.skip_blanks(s);
     let at = c.at;
     let b = peek(s, at);
     if b == b'{' {
-        return print_sum(b"j 0 object", members_sum(s, first_part(s, at)));
+        return print_sum(to, b"j 0 object", members_sum(s, first_part(s, at)));
     }
     if b == b'[' {
-        return print_sum(b"j 0 array", elements_sum(s, first_part(s, at)));
+        return print_sum(to, b"j 0 array", elements_sum(s, first_part(s, at)));
     }
-    scalar(b)
+    scalar(to, b)
 }
 
 // A value with no parts, by its first byte.
-fn scalar(b: u8) -> bool {
+fn scalar(to: Stdout, b: u8) -> bool {
     match b {
-        b'"' => no_parts(b"j 0 string"),
-        b't' => no_parts(b"j 0 true"),
-        b'f' => no_parts(b"j 0 false"),
-        b'n' => no_parts(b"j 0 null"),
-        _ => no_parts(b"j 0 number"),
+        b'"' => no_parts(to, b"j 0 string"),
+        b't' => no_parts(to, b"j 0 true"),
+        b'f' => no_parts(to, b"j 0 false"),
+        b'n' => no_parts(to, b"j 0 null"),
+        _ => no_parts(to, b"j 0 number"),
     }
 }
 
-fn no_parts(w: &[u8]) -> bool {
-    two(w, 0, EMPTY)
+fn no_parts(to: Stdout, w: &[u8]) -> bool {
+    two(to, w, 0, EMPTY)
 }
 
 // The place of the first part, or of the close, after the opening byte at a place.

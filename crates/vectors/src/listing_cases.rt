@@ -8,6 +8,7 @@ use crate::table_cases::summary;
 use first_line::{FirstLine, first_line};
 use listing::listing;
 use listing_labels::label;
+use std::io::Stdout;
 use table::Summary;
 
 // The most bytes of lent output.
@@ -15,6 +16,7 @@ pub(crate) const BYTES: usize = 65536;
 
 // The head is one number and the summary's twelve, and the metadata follows the rows.
 pub(crate) fn run_listing(
+    to: Stdout,
     letter: u8,
     payload: &[u8],
     head: &[u64],
@@ -25,10 +27,10 @@ pub(crate) fn run_listing(
     let n = at(head, 0);
     let s = past_numbers(payload, count_numbers(head, caps, notes));
     if letter == b'l' {
-        return run_label(t, caps, notes, s, n);
+        return run_label(to, t, caps, notes, s, n);
     }
     let mut room = [0u8; BYTES];
-    listing_to(t, caps, notes, s, front_bytes(&mut room, n))
+    listing_to(to, t, caps, notes, s, front_bytes(&mut room, n))
 }
 
 // How many numbers there are in a head, in both kinds of rows and in their counts.
@@ -38,31 +40,38 @@ pub(crate) fn count_numbers(head: &[u64], caps: &[u64], notes: &[u64]) -> usize 
 }
 
 // `l`: the refusal, whether annotation n has a label, and its part.
-fn run_label(t: Summary, caps: &[u64], notes: &[u64], s: &[u8], n: u64) -> bool {
+fn run_label(to: Stdout, t: Summary, caps: &[u64], notes: &[u64], s: &[u8], n: u64) -> bool {
     let mut refusal = 0u64;
     let mut present = 0u64;
     let part = label(t, caps, notes, s, n, &mut refusal, &mut present);
-    print_label(refusal, present, part)
+    print_label(to, refusal, present, part)
 }
 
-fn print_label(refusal: u64, present: u64, part: &[u8]) -> bool {
-    word(b"l");
-    number(refusal);
-    three(b"", present, part.len() as u64, sum_bytes(part))
+fn print_label(to: Stdout, refusal: u64, present: u64, part: &[u8]) -> bool {
+    word(to, b"l");
+    number(to, refusal);
+    three(to, b"", present, part.len() as u64, sum_bytes(part))
 }
 
 // `p`: the refusal, how many bytes were written, and the checksum of the lent output.
-fn listing_to(t: Summary, caps: &[u64], notes: &[u64], s: &[u8], out: &mut [u8]) -> bool {
+fn listing_to(
+    to: Stdout,
+    t: Summary,
+    caps: &[u64],
+    notes: &[u64],
+    s: &[u8],
+    out: &mut [u8],
+) -> bool {
     fill_bytes(out);
     let r = listing(t, caps, notes, s, out);
-    three(b"p", r.refusal, r.count, sum_bytes(out))
+    three(to, b"p", r.refusal, r.count, sum_bytes(out))
 }
 
 // `q`: whether the first line has the form, the dataset's length and the place past the line feed.
-pub(crate) fn answer_first_line(input: &[u8]) -> bool {
+pub(crate) fn answer_first_line(to: Stdout, input: &[u8]) -> bool {
     let r = first_line(input);
     match r {
-        FirstLine::Size(d, at) => two(b"q 1", d, at as u64),
-        FirstLine::Other => line(b"q 0"),
+        FirstLine::Size(d, at) => two(to, b"q 1", d, at as u64),
+        FirstLine::Other => line(to, b"q 0"),
     }
 }

@@ -34,81 +34,83 @@ use crate::storing_cases::run_loading;
 use crate::stream_cases::{run_chunks, run_states};
 use crate::table_cases::{NUMBERS, run_table};
 use limits::Limits;
+use standard_streams::read_full;
+use std::io::Stdout;
 
 // The bytes of the longest payload: the numbers of a table's case and a metadata text one byte too long.
 const ROOM: usize = 8 * NUMBERS + Limits::METADATA + 1;
 
-fn main() {
+fn main(rt: HostRuntime) {
     let mut room = [0u8; ROOM];
-    run_cases(&mut room);
+    run_cases(rt, &mut room);
 }
 
-fn run_cases(room: &mut [u8]) {
+fn run_cases(rt: HostRuntime, room: &mut [u8]) {
     let mut turns = u64::MAX;
-    while turns > 0 && run_case(room) {
+    while turns > 0 && run_case(rt, room) {
         turns -= 1;
     }
 }
 
 // Runs one case, and answers whether to go on.
-fn run_case(room: &mut [u8]) -> bool {
-    let h = read_header();
+fn run_case(rt: HostRuntime, room: &mut [u8]) -> bool {
+    let h = read_header(rt.stdin());
     match h {
-        Header::Case(letter, n) => run_in(letter, room, n),
+        Header::Case(letter, n) => run_in(rt, letter, room, n),
         Header::End => false,
-        Header::Broken => stop(),
+        Header::Broken => stop(rt.stdout()),
     }
 }
 
 // The case of a payload of n bytes, where there is room for it.
-fn run_in(letter: u8, room: &mut [u8], n: usize) -> bool {
+fn run_in(rt: HostRuntime, letter: u8, room: &mut [u8], n: usize) -> bool {
     if room.len() < n {
-        return stop();
+        return stop(rt.stdout());
     }
-    run_on(letter, front_bytes(room, n as u64))
+    run_on(rt, letter, front_bytes(room, n as u64))
 }
 
 // Fills the payload from the input, where that has as many bytes.
-fn run_on(letter: u8, payload: &mut [u8]) -> bool {
-    let got = io::read_full(0, payload);
+fn run_on(rt: HostRuntime, letter: u8, payload: &mut [u8]) -> bool {
+    let got = read_full(&mut rt.stdin(), payload);
     if got != payload.len() {
-        return stop();
+        return stop(rt.stdout());
     }
-    answer(letter, payload)
+    answer(rt.stdout(), letter, payload)
 }
 
-fn answer(letter: u8, payload: &[u8]) -> bool {
+fn answer(to: Stdout, letter: u8, payload: &[u8]) -> bool {
     match letter {
-        b'j' => json_cases::answer(payload),
-        b's' => body_cases::answer(payload),
-        b'e' => compare_parts(payload),
-        b't' => run_table(letter, payload),
-        b'z' => run_table(letter, payload),
-        b'l' => run_table(letter, payload),
-        b'p' => run_table(letter, payload),
-        b'w' => run_table(letter, payload),
-        b'b' => run_table(letter, payload),
-        b'q' => answer_first_line(payload),
-        b'r' => run_reading(payload),
-        b'f' => run_loading(payload),
-        b'h' => run_chunks(payload),
-        b'i' => run_states(payload),
-        _ => answer_field(letter, payload),
+        b'j' => json_cases::answer(to, payload),
+        b's' => body_cases::answer(to, payload),
+        b'e' => compare_parts(to, payload),
+        b't' => run_table(to, letter, payload),
+        b'z' => run_table(to, letter, payload),
+        b'l' => run_table(to, letter, payload),
+        b'p' => run_table(to, letter, payload),
+        b'w' => run_table(to, letter, payload),
+        b'b' => run_table(to, letter, payload),
+        b'q' => answer_first_line(to, payload),
+        b'r' => run_reading(to, payload),
+        b'f' => run_loading(to, payload),
+        b'h' => run_chunks(to, payload),
+        b'i' => run_states(to, payload),
+        _ => answer_field(to, letter, payload),
     }
 }
 
-fn answer_field(letter: u8, payload: &[u8]) -> bool {
+fn answer_field(to: Stdout, letter: u8, payload: &[u8]) -> bool {
     match letter {
-        b'u' => answer_uint(payload),
-        b'd' => answer_datatype(payload),
-        b'v' => answer_version(payload),
-        b'm' => answer_datetime(payload),
-        b'k' => answer_types(payload),
-        b'x' => answer_extension(payload),
-        b'n' => answer_form(payload),
-        b'g' => answer_name(letter, payload),
-        b'c' => answer_name(letter, payload),
-        b'a' => answer_name(letter, payload),
-        _ => stop(),
+        b'u' => answer_uint(to, payload),
+        b'd' => answer_datatype(to, payload),
+        b'v' => answer_version(to, payload),
+        b'm' => answer_datetime(to, payload),
+        b'k' => answer_types(to, payload),
+        b'x' => answer_extension(to, payload),
+        b'n' => answer_form(to, payload),
+        b'g' => answer_name(to, letter, payload),
+        b'c' => answer_name(to, letter, payload),
+        b'a' => answer_name(to, letter, payload),
+        _ => stop(to),
     }
 }

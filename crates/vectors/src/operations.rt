@@ -6,6 +6,7 @@ use crate::print;
 use crate::print::{flag, one, stop, three, two, word};
 use crate::sum::{EMPTY, add_numbers, sum_bytes};
 use crate::table_cases::summary;
+use std::io::Stdout;
 use table::{Summary, locate, well_formed};
 use table_cuts::cut;
 use table_pieces::{copy, pieces};
@@ -24,17 +25,23 @@ const NUMBERS: usize = 512;
 const BYTES: usize = 65536;
 
 // The head is the operation, the summary's twelve numbers, a and b.
-pub(crate) fn run_operation(head: &[u64], caps: &[u64], notes: &[u64], sizes: &[u64]) -> bool {
+pub(crate) fn run_operation(
+    to: Stdout,
+    head: &[u64],
+    caps: &[u64],
+    notes: &[u64],
+    sizes: &[u64],
+) -> bool {
     let c = read_case(head);
     let n = at(sizes, 0);
     let m = at(sizes, 1);
     match at(head, 0) {
-        0 => run_well_formed(c, caps, notes),
-        1 => run_locate(c, caps, notes),
-        2 => run_pieces(c, caps, notes, n),
-        3 => run_cut(c, caps, notes, n, m),
-        4 => run_copy(c, caps, notes, n, m),
-        _ => stop(),
+        0 => run_well_formed(to, c, caps, notes),
+        1 => run_locate(to, c, caps, notes),
+        2 => run_pieces(to, c, caps, notes, n),
+        3 => run_cut(to, c, caps, notes, n, m),
+        4 => run_copy(to, c, caps, notes, n, m),
+        _ => stop(to),
     }
 }
 
@@ -47,31 +54,32 @@ fn read_case(head: &[u64]) -> Case {
     }
 }
 
-fn run_well_formed(c: Case, caps: &[u64], notes: &[u64]) -> bool {
+fn run_well_formed(to: Stdout, c: Case, caps: &[u64], notes: &[u64]) -> bool {
     let good = well_formed(c.t, caps, notes);
-    two(b"t", flag(good), EMPTY)
+    two(to, b"t", flag(good), EMPTY)
 }
 
-fn run_locate(c: Case, caps: &[u64], notes: &[u64]) -> bool {
+fn run_locate(to: Stdout, c: Case, caps: &[u64], notes: &[u64]) -> bool {
     let r = locate(c.t, caps, notes, c.a);
-    three(b"t", r.refusal, r.byte, EMPTY)
+    three(to, b"t", r.refusal, r.byte, EMPTY)
 }
 
-fn run_pieces(c: Case, caps: &[u64], notes: &[u64], size: u64) -> bool {
+fn run_pieces(to: Stdout, c: Case, caps: &[u64], notes: &[u64], size: u64) -> bool {
     let mut room = [0u64; NUMBERS];
-    pieces_to(c, caps, notes, front(&mut room, size))
+    pieces_to(to, c, caps, notes, front(&mut room, size))
 }
 
-fn pieces_to(c: Case, caps: &[u64], notes: &[u64], out: &mut [u64]) -> bool {
+fn pieces_to(to: Stdout, c: Case, caps: &[u64], notes: &[u64], out: &mut [u64]) -> bool {
     fill(out);
     let r = pieces(c.t, caps, notes, c.a, c.b, out);
-    three(b"t", r.refusal, r.count, add_numbers(EMPTY, out))
+    three(to, b"t", r.refusal, r.count, add_numbers(EMPTY, out))
 }
 
-fn run_cut(c: Case, caps: &[u64], notes: &[u64], capsize: u64, notesize: u64) -> bool {
+fn run_cut(to: Stdout, c: Case, caps: &[u64], notes: &[u64], capsize: u64, notesize: u64) -> bool {
     let mut caproom = [0u64; NUMBERS];
     let mut noteroom = [0u64; NUMBERS];
     cut_to(
+        to,
         c,
         caps,
         notes,
@@ -80,24 +88,32 @@ fn run_cut(c: Case, caps: &[u64], notes: &[u64], capsize: u64, notesize: u64) ->
     )
 }
 
-fn cut_to(c: Case, caps: &[u64], notes: &[u64], capto: &mut [u64], noteto: &mut [u64]) -> bool {
+fn cut_to(
+    to: Stdout,
+    c: Case,
+    caps: &[u64],
+    notes: &[u64],
+    capto: &mut [u64],
+    noteto: &mut [u64],
+) -> bool {
     fill(capto);
     fill(noteto);
     let r = cut(c.t, caps, notes, c.a, c.b, capto, noteto);
-    print_summary(r, add_numbers(add_numbers(EMPTY, capto), noteto))
+    print_summary(to, r, add_numbers(add_numbers(EMPTY, capto), noteto))
 }
 
 // An answer of a summary and the checksum of lent output.
-fn print_summary(t: Summary, h: u64) -> bool {
-    word(b"t");
-    print::summary(t);
-    one(b"", h)
+fn print_summary(to: Stdout, t: Summary, h: u64) -> bool {
+    word(to, b"t");
+    print::summary(to, t);
+    one(to, b"", h)
 }
 
-fn run_copy(c: Case, caps: &[u64], notes: &[u64], length: u64, size: u64) -> bool {
+fn run_copy(to: Stdout, c: Case, caps: &[u64], notes: &[u64], length: u64, size: u64) -> bool {
     let mut dataset = [0u8; BYTES];
     let mut room = [0u8; BYTES];
     copy_to(
+        to,
         c,
         caps,
         notes,
@@ -106,9 +122,16 @@ fn run_copy(c: Case, caps: &[u64], notes: &[u64], length: u64, size: u64) -> boo
     )
 }
 
-fn copy_to(c: Case, caps: &[u64], notes: &[u64], bytes: &mut [u8], out: &mut [u8]) -> bool {
+fn copy_to(
+    to: Stdout,
+    c: Case,
+    caps: &[u64],
+    notes: &[u64],
+    bytes: &mut [u8],
+    out: &mut [u8],
+) -> bool {
     fill_dataset(bytes);
     fill_bytes(out);
     let r = copy(c.t, caps, notes, bytes, c.a, c.b, out);
-    three(b"t", r.refusal, r.count, sum_bytes(out))
+    three(to, b"t", r.refusal, r.count, sum_bytes(out))
 }

@@ -1,80 +1,80 @@
 // Prints an answer's line, part by part.
+use std::io::Stdout;
 use table::Summary;
 
-pub(crate) fn word(w: &[u8]) -> bool {
-    io::write_all(1, w)
+pub(crate) fn word(to: Stdout, w: &[u8]) -> bool {
+    to.write_all(w).is_ok()
 }
 
 // A space and a number's decimal digits.
-pub(crate) fn number(n: u64) -> bool {
-    word(b" ");
-    io::print_decimal(1, n)
+pub(crate) fn number(to: Stdout, n: u64) -> bool {
+    print!(to; " {n}").is_ok()
 }
 
-pub(crate) fn numbers(v: &[u64]) {
+pub(crate) fn numbers(to: Stdout, v: &[u64]) {
     let mut i = 0usize;
     while i < v.len() {
-        number(v[i]);
+        number(to, v[i]);
         i += 1;
     }
 }
 
 // The summary's twelve numbers.
-pub(crate) fn summary(t: Summary) {
-    format(t);
-    lengths(t);
-    counts(t);
+pub(crate) fn summary(to: Stdout, t: Summary) {
+    format(to, t);
+    lengths(to, t);
+    counts(to, t);
 }
 
-fn format(t: Summary) {
-    number(t.refusal);
-    number(t.datatype);
-    number(t.channels);
-    number(t.width);
+fn format(to: Stdout, t: Summary) {
+    number(to, t.refusal);
+    number(to, t.datatype);
+    number(to, t.channels);
+    number(to, t.width);
 }
 
-fn lengths(t: Summary) {
-    number(t.offset);
-    number(t.trailing);
-    number(t.samples);
-    number(t.size);
+fn lengths(to: Stdout, t: Summary) {
+    number(to, t.offset);
+    number(to, t.trailing);
+    number(to, t.samples);
+    number(to, t.size);
 }
 
-fn counts(t: Summary) {
-    number(t.captures);
-    number(t.annotations);
-    number(t.rate.at);
-    number(t.rate.len);
+fn counts(to: Stdout, t: Summary) {
+    number(to, t.captures);
+    number(to, t.annotations);
+    number(to, t.rate.at);
+    number(to, t.rate.len);
 }
 
 // The end of the line; whether it could be written.
-pub(crate) fn end() -> bool {
-    word(b"\n")
+pub(crate) fn end(to: Stdout) -> bool {
+    word(to, b"\n")
 }
 
 // A line of a word.
-pub(crate) fn line(w: &[u8]) -> bool {
-    word(w);
-    end()
+pub(crate) fn line(to: Stdout, w: &[u8]) -> bool {
+    word(to, w);
+    end(to)
 }
 
 // Lines of a word and numbers.
-pub(crate) fn one(w: &[u8], x: u64) -> bool {
-    word(w);
-    number(x);
-    end()
+pub(crate) fn one(to: Stdout, w: &[u8], x: u64) -> bool {
+    word(to, w);
+    number(to, x);
+    end(to)
 }
 
-pub(crate) fn two(w: &[u8], x: u64, y: u64) -> bool {
-    word(w);
-    number(x);
-    one(b"", y)
+pub(crate) fn two(to: Stdout, w: &[u8], x: u64, y: u64) -> bool {
+    word(to, w);
+    number(to, x);
+    one(to, b"", y)
 }
 
-pub(crate) fn three(w: &[u8], x: u64, y: u64, z: u64) -> bool {
-    word(w);
-    number(x);
-    two(b"", y, z)
+pub(crate) fn three(to: Stdout, w: &[u8], x: u64, y: u64, z: u64) -> bool {
+    word(to, w);
+    number(to, x);
+    two(to, b"", y, z)
 }
 
 // 1 for true, 0 for false.
@@ -86,7 +86,7 @@ pub(crate) fn flag(b: bool) -> u64 {
 }
 
 // Says that the input is broken, and ends the run.
-pub(crate) fn stop() -> bool {
-    line(b"stopped");
+pub(crate) fn stop(to: Stdout) -> bool {
+    line(to, b"stopped");
     false
 }

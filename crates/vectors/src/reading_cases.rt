@@ -6,17 +6,19 @@ use crate::parts::front;
 use crate::print::{summary, two, word};
 use crate::sum::{EMPTY, add_numbers};
 use reader::{judge, read};
+use std::io::Stdout;
 use table::Summary;
 
 // The most numbers that are lent for rows of one kind.
 pub(crate) const NUMBERS: usize = 4096;
 
-pub(crate) fn run_reading(payload: &[u8]) -> bool {
+pub(crate) fn run_reading(to: Stdout, payload: &[u8]) -> bool {
     let mut head = [0u64; 3];
     read_numbers(payload, &mut head);
     let mut caproom = [0u64; NUMBERS];
     let mut noteroom = [0u64; NUMBERS];
     read_to(
+        to,
         past_numbers(payload, 3),
         at(&head, 0),
         front(&mut caproom, at(&head, 1)),
@@ -24,15 +26,15 @@ pub(crate) fn run_reading(payload: &[u8]) -> bool {
     )
 }
 
-fn read_to(s: &[u8], d: u64, caps: &mut [u64], notes: &mut [u64]) -> bool {
+fn read_to(to: Stdout, s: &[u8], d: u64, caps: &mut [u64], notes: &mut [u64]) -> bool {
     fill(caps);
     fill(notes);
     let t = read(s, d, caps, notes);
     if is_judged(s, d, t) {
-        return print_read(t, add_numbers(EMPTY, caps), add_numbers(EMPTY, notes));
+        return print_read(to, t, add_numbers(EMPTY, caps), add_numbers(EMPTY, notes));
     }
-    word(b"r and judge differ");
-    two(b"", d, t.refusal)
+    word(to, b"r and judge differ");
+    two(to, b"", d, t.refusal)
 }
 
 // `judge` gives the same summary, or acceptance where `read` lacks room.
@@ -61,8 +63,8 @@ fn summary_sum(t: Summary) -> u64 {
 }
 
 // The summary and the checksums of the lent memory.
-fn print_read(t: Summary, g: u64, h: u64) -> bool {
-    word(b"r");
-    summary(t);
-    two(b"", g, h)
+fn print_read(to: Stdout, t: Summary, g: u64, h: u64) -> bool {
+    word(to, b"r");
+    summary(to, t);
+    two(to, b"", g, h)
 }

@@ -6,6 +6,7 @@ use crate::print;
 use crate::print::{numbers, three, word};
 use crate::sum::{EMPTY, add_numbers, sum_bytes};
 use crate::table_cases::summary;
+use std::io::Stdout;
 use table::Summary;
 use table_cuts::cut;
 use table_pieces::copy;
@@ -35,21 +36,35 @@ pub struct Stepped {
 }
 
 // The numbers are how many steps there are, and those of each.
-pub(crate) fn run_steps(head: &[u64], caps: &[u64], notes: &[u64], v: &[u64]) -> bool {
+pub(crate) fn run_steps(to: Stdout, head: &[u64], caps: &[u64], notes: &[u64], v: &[u64]) -> bool {
     let mut caproom = [0u64; NUMBERS];
     let mut noteroom = [0u64; NUMBERS];
     let mut dataset = [0u8; BYTES];
     store(caps, &mut caproom);
     store(notes, &mut noteroom);
     fill_dataset(&mut dataset);
-    steps_in(summary(head), v, &mut caproom, &mut noteroom, &mut dataset)
+    steps_in(
+        to,
+        summary(head),
+        v,
+        &mut caproom,
+        &mut noteroom,
+        &mut dataset,
+    )
 }
 
-fn steps_in(t: Summary, v: &[u64], caps: &mut [u64], notes: &mut [u64], bytes: &mut [u8]) -> bool {
+fn steps_in(
+    to: Stdout,
+    t: Summary,
+    v: &[u64],
+    caps: &mut [u64],
+    notes: &mut [u64],
+    bytes: &mut [u8],
+) -> bool {
     let n = at(v, 0);
     let mut refusals = [0u64; STEPS];
     let e = take_steps(t, past(v, 1), caps, notes, bytes, front(&mut refusals, n));
-    print_end(e, caps, notes, bytes, first(&refusals, n))
+    print_end(to, e, caps, notes, bytes, first(&refusals, n))
 }
 
 // Takes a step for each refusal, and answers the last table's summary.
@@ -149,16 +164,23 @@ fn copy_over(t: Summary, s: Step, caps: &[u64], notes: &[u64], bytes: &mut [u8])
 }
 
 // The refusals, the summary, and the checksums of the counted rows and of the dataset.
-fn print_end(t: Summary, caps: &[u64], notes: &[u64], bytes: &[u8], refusals: &[u64]) -> bool {
+fn print_end(
+    to: Stdout,
+    t: Summary,
+    caps: &[u64],
+    notes: &[u64],
+    bytes: &[u8],
+    refusals: &[u64],
+) -> bool {
     let g = add_numbers(EMPTY, first_rows(caps, t.captures));
     let h = add_numbers(EMPTY, first_rows(notes, t.annotations));
     let k = sum_bytes(first_bytes(bytes, t.size));
-    print_steps(refusals, t);
-    three(b"", g, h, k)
+    print_steps(to, refusals, t);
+    three(to, b"", g, h, k)
 }
 
-fn print_steps(refusals: &[u64], t: Summary) {
-    word(b"z");
-    numbers(refusals);
-    print::summary(t);
+fn print_steps(to: Stdout, refusals: &[u64], t: Summary) {
+    word(to, b"z");
+    numbers(to, refusals);
+    print::summary(to, t);
 }

@@ -6,6 +6,7 @@ use crate::print::{flag, number, two, word};
 use crate::sum::{EMPTY, Sum, mix, print_sum};
 use json_automaton::State;
 use json_stream::{Fed, feed, finish, fresh};
+use std::io::Stdout;
 
 // The most bytes of a chunk.
 const BYTES: usize = 65536;
@@ -19,14 +20,17 @@ pub struct Run {
 
 // The numbers are those of the starting state after how many they are, 0 for the fresh state or 4, and how many chunks there
 // are; these follow.
-pub(crate) fn run_chunks(payload: &[u8]) -> bool {
+pub(crate) fn run_chunks(to: Stdout, payload: &[u8]) -> bool {
     let mut head = [0u64; 6];
     read_numbers(payload, &mut head);
     if at(&head, 0) == 0 {
-        return print_run(feed_chunks(fresh(), past_numbers(payload, 2), at(&head, 1)));
+        return print_run(
+            to,
+            feed_chunks(fresh(), past_numbers(payload, 2), at(&head, 1)),
+        );
     }
     let st = state(past(&head, 1));
-    print_run(feed_chunks(st, past_numbers(payload, 6), at(&head, 5)))
+    print_run(to, feed_chunks(st, past_numbers(payload, 6), at(&head, 5)))
 }
 
 // The state of four numbers.
@@ -111,28 +115,32 @@ fn add_halves(h: u64, v: &[u64]) -> u64 {
 }
 
 // `h`: the checksum, the last answer's numbers, and what finishing gives.
-fn print_run(r: Run) -> bool {
+fn print_run(to: Stdout, r: Run) -> bool {
     let e = r.last;
-    word(b"h");
-    number(r.hash);
-    number(e.refusal);
-    number(e.lost);
-    print_state(e.state)
+    word(to, b"h");
+    number(to, r.hash);
+    number(to, e.refusal);
+    number(to, e.lost);
+    print_state(to, e.state)
 }
 
-fn print_state(st: State) -> bool {
-    number(st.place);
-    number(st.token);
-    number(st.stack);
-    two(b"", st.count as u64, finish(st))
+fn print_state(to: Stdout, st: State) -> bool {
+    number(to, st.place);
+    number(to, st.token);
+    number(to, st.stack);
+    two(to, b"", st.count as u64, finish(st))
 }
 
 // The numbers are those of the first state, what each state has more than the one before, and how many there are.
 // `i`: how many were not refused, and the checksum of all answers.
-pub(crate) fn run_states(payload: &[u8]) -> bool {
+pub(crate) fn run_states(to: Stdout, payload: &[u8]) -> bool {
     let mut v = [0u64; 9];
     read_numbers(payload, &mut v);
-    print_sum(b"i", feed_states(state(&v), state(past(&v, 4)), at(&v, 8)))
+    print_sum(
+        to,
+        b"i",
+        feed_states(state(&v), state(past(&v, 4)), at(&v, 8)),
+    )
 }
 
 // State k is fed the byte k modulo 256.

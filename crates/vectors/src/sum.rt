@@ -1,5 +1,6 @@
 use crate::print::two;
 use json_strings::{Position, Stream, next_byte};
+use std::io::Stdout;
 
 // How many things were counted, and the checksum of their numbers.
 #[derive(Clone, Copy)]
@@ -9,8 +10,8 @@ pub struct Sum {
 }
 
 // A line of a word, the count and the checksum.
-pub(crate) fn print_sum(w: &[u8], m: Sum) -> bool {
-    two(w, m.count, m.hash)
+pub(crate) fn print_sum(to: Stdout, w: &[u8], m: Sum) -> bool {
+    two(to, w, m.count, m.hash)
 }
 
 // The checksum of no numbers.

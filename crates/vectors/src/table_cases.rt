@@ -7,15 +7,16 @@ use crate::parts::{first, past};
 use crate::steps_cases::run_steps;
 use crate::storing_cases::run_storing;
 use crate::writing_cases::run_writing;
+use std::io::Stdout;
 use table::{Place, Summary};
 
 // The numbers of the longest case: 13, two counts and two times 4,096.
 pub(crate) const NUMBERS: usize = 8207;
 
-pub(crate) fn run_table(letter: u8, payload: &[u8]) -> bool {
+pub(crate) fn run_table(to: Stdout, letter: u8, payload: &[u8]) -> bool {
     let mut room = [0u64; NUMBERS];
     let n = read_numbers(payload, &mut room);
-    run_numbers(letter, payload, first(&room, n as u64))
+    run_numbers(to, letter, payload, first(&room, n as u64))
 }
 
 // How many numbers the head has: the operation, the summary's twelve, a and b; or the summary's alone; or one before them.
@@ -29,13 +30,13 @@ fn head_of(letter: u8) -> u64 {
     13
 }
 
-fn run_numbers(letter: u8, payload: &[u8], v: &[u64]) -> bool {
+fn run_numbers(to: Stdout, letter: u8, payload: &[u8], v: &[u64]) -> bool {
     let h = head_of(letter);
     let head = first(v, h);
     let w = past(v, h);
     let caps = counted(w);
     let x = past_counted(w);
-    run_rows(letter, payload, head, caps, counted(x), past_counted(x))
+    run_rows(to, letter, payload, head, caps, counted(x), past_counted(x))
 }
 
 // The numbers after their count.
@@ -51,6 +52,7 @@ fn past_counted(v: &[u64]) -> &[u64] {
 }
 
 fn run_rows(
+    to: Stdout,
     letter: u8,
     payload: &[u8],
     head: &[u64],
@@ -59,18 +61,18 @@ fn run_rows(
     asked: &[u64],
 ) -> bool {
     if letter == b't' {
-        return run_operation(head, caps, notes, asked);
+        return run_operation(to, head, caps, notes, asked);
     }
     if letter == b'z' {
-        return run_steps(head, caps, notes, asked);
+        return run_steps(to, head, caps, notes, asked);
     }
     if letter == b'w' {
-        return run_writing(payload, head, caps, notes);
+        return run_writing(to, payload, head, caps, notes);
     }
     if letter == b'b' {
-        return run_storing(head, caps, notes);
+        return run_storing(to, head, caps, notes);
     }
-    run_listing(letter, payload, head, caps, notes)
+    run_listing(to, letter, payload, head, caps, notes)
 }
 
 // The summary of twelve numbers.

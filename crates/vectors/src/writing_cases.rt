@@ -6,20 +6,27 @@ use crate::parts::{front_bytes, past};
 use crate::print::three;
 use crate::sum::sum_bytes;
 use crate::table_cases::summary;
+use std::io::Stdout;
 use table::Summary;
 use writer::write;
 
 // The head is how many bytes are lent and the summary's twelve, and the metadata follows the rows.
-pub(crate) fn run_writing(payload: &[u8], head: &[u64], caps: &[u64], notes: &[u64]) -> bool {
+pub(crate) fn run_writing(
+    to: Stdout,
+    payload: &[u8],
+    head: &[u64],
+    caps: &[u64],
+    notes: &[u64],
+) -> bool {
     let t = summary(past(head, 1));
     let s = past_numbers(payload, count_numbers(head, caps, notes));
     let mut room = [0u8; BYTES];
-    write_to(t, caps, notes, s, front_bytes(&mut room, at(head, 0)))
+    write_to(to, t, caps, notes, s, front_bytes(&mut room, at(head, 0)))
 }
 
 // `w`: the refusal, how many bytes were written, and the checksum of the lent output.
-fn write_to(t: Summary, caps: &[u64], notes: &[u64], s: &[u8], out: &mut [u8]) -> bool {
+fn write_to(to: Stdout, t: Summary, caps: &[u64], notes: &[u64], s: &[u8], out: &mut [u8]) -> bool {
     fill_bytes(out);
     let r = write(t, caps, notes, s, out);
-    three(b"w", r.refusal, r.count, sum_bytes(out))
+    three(to, b"w", r.refusal, r.count, sum_bytes(out))
 }
