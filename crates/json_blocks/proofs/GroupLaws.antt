@@ -1,13 +1,12 @@
 -- Steps of the definitions of specs/Group.antt, on plain variables.
 use mathlib.Core.Path.{◌≡◌, sym}
 use mathlib.Core.List.{List}
-use Prim.Native.Nat.{ℕ, ◌≤◌, ◌<◌, ◌+◌, ◌-◌}
+use Prim.Native.Nat.{ℕ, ◌<◌, ◌+◌}
 use native.Mathlib.Omega.{arith}
 use lib.ListN.{length}
 use lib.Dec.{eqb}
 use borrow.Author.Tests.{eq-eqb, ne_eqb, eqb-true}
 use Rattle.json_blocks.specs.declared.Cursor.{Cursor}
-use Rattle.json_blocks.specs.declared.Read.{Read}
 use Rattle.json_blocks.specs.declared.Read.TheVariants as R
 use Rattle.json_blocks.specs.declared.After.{After}
 use Rattle.json_blocks.specs.declared.After.TheVariants as A

@@ -1,7 +1,6 @@
 use native.Mathlib.Omega.{arith}
 use mathlib.Core.Path.{sym, ◌∙◌}
 use Rattle.json_blocks.proofs.ByteLaws.{inside, within_is, byte_to, byte_bad}
-use borrow.Author.Rules.{rules}
 use Rattle.json_characters.proofs.byte_within.Goals as goal
 
 pub overflow_add-result : goal.overflow_add-result

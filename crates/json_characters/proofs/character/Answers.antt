@@ -1,7 +1,6 @@
 use native.Mathlib.Omega.{arith}
 use Rattle.json_blocks.proofs.ByteLaws.{inside}
 use Rattle.json_characters.proofs.StringLaws.{character_control, character_escape, character_plain, character_wide}
-use borrow.Author.Rules.{rules}
 use Rattle.json_characters.proofs.character.Goals as goal
 
 pub returns-then-b-lt32 : goal.returns-then-b-lt32

@@ -3,7 +3,6 @@ use mathlib.Core.Path.{sym, ◌∙◌}
 use Rattle.json_blocks.proofs.ByteLaws.{inside, good_inside}
 use Rattle.json_characters.proofs.StringLaws.{no_short, escape_short, escape_unicode, escape_bad}
 use Rattle.json_characters.specs.String.{short_escape}
-use borrow.Author.Rules.{rules}
 use Rattle.json_characters.proofs.escape.Goals as goal
 
 pub overflow_add-result : goal.overflow_add-result

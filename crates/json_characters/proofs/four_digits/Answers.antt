@@ -3,7 +3,6 @@ use Prim.Native.Nat.{◌+◌}
 use mathlib.Core.Path.{ap, ◌∙◌}
 use Rattle.json_characters.proofs.StringLaws.{hex_inside, hex4_1, hex4_2, hex4_3, hex4_4, hex4_5}
 use Rattle.json_characters.specs.String.{hex_value}
-use borrow.Author.Rules.{rules}
 use Rattle.json_characters.proofs.four_digits.Goals as goal
 
 pub returns-then-a-gt15 : goal.returns-then-a-gt15

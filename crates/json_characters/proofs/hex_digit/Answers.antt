@@ -2,7 +2,6 @@ use native.Mathlib.Omega.{arith}
 use mathlib.Core.Path.{sym, ◌∙◌}
 use Rattle.json_characters.specs.String.{hex_value}
 use Rattle.json_blocks.proofs.ByteLaws.{within_is}
-use borrow.Author.Rules.{rules}
 use Rattle.json_characters.proofs.hex_digit.Goals as goal
 
 pub overflow_sub-result : goal.overflow_sub-result

@@ -3,7 +3,6 @@ use Prim.Native.Nat.{◌+◌}
 use mathlib.Core.Path.{sym, ◌∙◌}
 use Rattle.json_blocks.proofs.ByteLaws.{inside}
 use Rattle.json_characters.proofs.StringLaws.{low_1, low_2, low_3, low_4, low_5}
-use borrow.Author.Rules.{rules}
 use Rattle.json_characters.proofs.low_surrogate.Goals as goal
 
 pub overflow_add-at : goal.overflow_add-at

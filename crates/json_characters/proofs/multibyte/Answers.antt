@@ -1,7 +1,6 @@
 use mathlib.Core.Path.{sym, ◌∙◌}
 use borrow.Author.Tests.{eq-eqb, ne_eqb}
 use Rattle.json_characters.specs.String.{multibyte_at}
-use borrow.Author.Rules.{rules}
 use Rattle.json_characters.proofs.multibyte.Goals as goal
 
 pub returns-then-is_within : goal.returns-then-is_within

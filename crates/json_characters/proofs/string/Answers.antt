@@ -1,10 +1,6 @@
-use borrow.Author.Rules.{rules}
 use native.Mathlib.Omega.{arith}
-use lib.ListN.{length}
-use Prim.Native.Nat.{◌-◌}
-use mathlib.Core.Path.{◌≡◌, refl, ◌∙◌}
+use mathlib.Core.Path.{refl, ◌∙◌}
 use Rattle.json_blocks.proofs.ByteLaws.{inside}
-use Rattle.json_characters.specs.String.{string_at}
 use Rattle.json_characters.proofs.StringLaws.{string_close, string_bad, string_less, string_on}
 use Rattle.json_characters.proofs.StringLaws.{plain_strings}
 use Rattle.json_characters.proofs.string.Goals as goal

@@ -1,5 +1,4 @@
 use Rattle.json_characters.proofs.StringLaws.{three_bad, three_to}
-use borrow.Author.Rules.{rules}
 use Rattle.json_characters.proofs.three_bytes.Goals as goal
 
 pub returns-in_default : goal.returns-in_default

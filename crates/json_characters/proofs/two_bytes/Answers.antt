@@ -1,5 +1,4 @@
 use Rattle.json_characters.proofs.StringLaws.{two_bad, two_to}
-use borrow.Author.Rules.{rules}
 use Rattle.json_characters.proofs.two_bytes.Goals as goal
 
 pub returns-in_default : goal.returns-in_default

@@ -1,6 +1,5 @@
 use mathlib.Core.Path.{sym, ◌∙◌}
 use Rattle.json_characters.proofs.StringLaws.{unicode_none, unicode_pair, unicode_low, unicode_one}
-use borrow.Author.Rules.{rules}
 use Rattle.json_characters.proofs.unicode_escape.Goals as goal
 
 pub returns-in_default : goal.returns-in_default

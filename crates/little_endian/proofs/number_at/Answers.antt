@@ -1,6 +1,4 @@
-use Prim.Native.Nat.{◌-◌}
 use Rattle.little_endian.proofs.ReadLaws.{number_in, number_out}
-use borrow.Author.Rules.{rules}
 use Rattle.little_endian.proofs.number_at.Goals as goal
 
 pub returns-then-i-bytes : goal.returns-then-i-bytes

@@ -1,6 +1,4 @@
-use Prim.Native.Nat.{◌-◌}
 use Rattle.little_endian.proofs.ReadLaws.{eight_bytes}
-use borrow.Author.Rules.{rules}
 use Rattle.little_endian.proofs.number_from.Goals as goal
 
 pub returns : goal.returns

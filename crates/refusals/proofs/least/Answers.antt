@@ -1,10 +1,4 @@
-use borrow.Author.Rules.{rules}
-use native.Mathlib.Omega.{arith}
-use lib.ListN.{length, get_or, drop}
-use Prim.Native.Nat.{ℕ, ◌≤◌, ◌<◌, ◌-◌, ◌+◌, ◌*◌}
-use mathlib.Core.Path.{◌≡◌, refl, sym, ap, ◌∙◌}
 use Rattle.refusals.proofs.LeastLaws.{least_none, least_only, least_low, least_high}
-use Rattle.refusals.proofs.least.Lts as lts
 use Rattle.refusals.proofs.least.Goals as goal
 
 pub returns-then-a-eq0 : goal.returns-then-a-eq0

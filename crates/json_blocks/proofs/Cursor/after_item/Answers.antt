@@ -1,7 +1,6 @@
 use native.Mathlib.Omega.{arith}
 use Rattle.json_blocks.proofs.ByteLaws.{inside}
 use Rattle.json_blocks.proofs.GroupLaws.{after_comma, after_close, after_bad}
-use borrow.Author.Rules.{rules}
 use Rattle.json_blocks.proofs.Cursor.after_item.Goals as goal
 
 pub overflow_add-at : goal.overflow_add-at

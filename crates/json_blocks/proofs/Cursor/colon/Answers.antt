@@ -1,7 +1,6 @@
 use native.Mathlib.Omega.{arith}
 use Rattle.json_blocks.proofs.ByteLaws.{inside}
 use Rattle.json_blocks.proofs.GroupLaws.{colon_to, colon_bad}
-use borrow.Author.Rules.{rules}
 use Rattle.json_blocks.proofs.Cursor.colon.Goals as goal
 
 pub overflow_add-at : goal.overflow_add-at

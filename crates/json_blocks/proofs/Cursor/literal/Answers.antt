@@ -1,8 +1,4 @@
-use native.Mathlib.Omega.{arith}
-use lib.ListN.{length, drop}
-use Prim.Native.Nat.{◌-◌}
-use mathlib.Core.Path.{◌≡◌, refl, ◌∙◌}
-use Rattle.json_blocks.specs.TextBytes.{literal_at}
+use mathlib.Core.Path.{◌∙◌}
 use Rattle.json_blocks.proofs.ByteLaws.{literal_end, literal_short, literal_on, literal_not}
 use Rattle.json_blocks.proofs.Cursor.literal.Goals as goal
 

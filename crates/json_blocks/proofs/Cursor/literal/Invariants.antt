@@ -1,9 +1,7 @@
-use native.Mathlib.Omega.{arith}
 use lib.ListN.{length, drop}
 use Prim.Native.Nat.{◌-◌}
-use mathlib.Core.Path.{◌≡◌, refl, ◌∙◌}
+use mathlib.Core.Path.{◌≡◌}
 use Rattle.json_blocks.specs.TextBytes.{literal_at}
-use Rattle.json_blocks.proofs.ByteLaws.{literal_end, literal_short, literal_on, literal_not}
 use Rattle.json_blocks.proofs.Cursor.literal.Given as goal
 
 abbrev pub invariant-loop-i : goal.invariant-loop-i

@@ -1,9 +1,6 @@
-use borrow.Author.Rules.{rules}
 use native.Mathlib.Omega.{arith}
-use lib.ListN.{length}
-use Prim.Native.Nat.{◌-◌}
-use mathlib.Core.Path.{◌≡◌, refl, sym, ◌∙◌}
-use Rattle.json_blocks.specs.TextBytes.{blank, skip_blanks}
+use mathlib.Core.Path.{sym, ◌∙◌}
+use Rattle.json_blocks.specs.TextBytes.{blank}
 use Rattle.json_blocks.proofs.ByteLaws.{no_blank, good_inside, skip_on, skip_out}
 use Rattle.json_blocks.proofs.Cursor.skip_blanks.Goals as goal
 

@@ -1,10 +1,7 @@
-use borrow.Author.Rules.{rules}
-use native.Mathlib.Omega.{arith}
 use lib.ListN.{length}
 use Prim.Native.Nat.{◌-◌}
-use mathlib.Core.Path.{◌≡◌, refl, sym, ◌∙◌}
-use Rattle.json_blocks.specs.TextBytes.{blank, skip_blanks}
-use Rattle.json_blocks.proofs.ByteLaws.{no_blank, good_inside, skip_on, skip_out}
+use mathlib.Core.Path.{◌≡◌}
+use Rattle.json_blocks.specs.TextBytes.{skip_blanks}
 use Rattle.json_blocks.proofs.Cursor.skip_blanks.Given as goal
 
 abbrev pub invariant-loop-i : goal.invariant-loop-i

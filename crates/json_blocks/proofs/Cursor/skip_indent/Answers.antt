@@ -2,7 +2,6 @@ use native.Mathlib.Omega.{arith}
 use mathlib.Core.Path.{◌∙◌}
 use Rattle.json_blocks.proofs.ByteLaws.{inside}
 use Rattle.json_blocks.proofs.BlockLaws.{feed_pass}
-use borrow.Author.Rules.{rules}
 use Rattle.json_blocks.proofs.Cursor.skip_indent.Goals as goal
 
 pub overflow_add-at : goal.overflow_add-at

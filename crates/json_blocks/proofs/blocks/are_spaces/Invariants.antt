@@ -1,10 +1,7 @@
-use borrow.Author.Rules.{rules}
-use native.Mathlib.Omega.{arith}
 use Prim.Native.Nat.{◌≤◌, ◌-◌, ◌+◌}
-use mathlib.Core.Path.{◌≡◌, ap, ◌∙◌}
-use mathlib.Core.Bool.{Bool, ◌&&◌}
+use mathlib.Core.Path.{◌≡◌}
+use mathlib.Core.Bool.{◌&&◌}
 use Rattle.json_blocks.specs.Blocks.{space_byte, all_at}
-use Rattle.json_blocks.proofs.BlockLaws.{all_start, all_on, all_end}
 use Rattle.json_blocks.proofs.blocks.are_spaces.Given as goal
 
 abbrev pub invariant-loop-k : goal.invariant-loop-k

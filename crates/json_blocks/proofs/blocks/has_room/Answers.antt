@@ -3,7 +3,6 @@ use lib.ListN.{length}
 use Prim.Native.Nat.{◌+◌}
 use mathlib.Core.Path.{sym}
 use borrow.Author.Tests.{lt-leb}
-use borrow.Author.Rules.{rules}
 use Rattle.json_blocks.proofs.BlockLaws.{room_is}
 use Rattle.json_blocks.proofs.blocks.has_room.Goals as goal
 

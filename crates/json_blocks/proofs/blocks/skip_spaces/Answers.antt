@@ -1,10 +1,8 @@
-use borrow.Author.Rules.{rules}
 use native.Mathlib.Omega.{arith}
 use lib.ListN.{length}
-use Prim.Native.Nat.{◌-◌, ◌+◌}
-use mathlib.Core.Path.{◌≡◌, refl, sym, ◌∙◌}
+use Prim.Native.Nat.{◌+◌}
+use mathlib.Core.Path.{sym, ◌∙◌}
 use borrow.Author.Tests.{leb-true}
-use Rattle.json_blocks.specs.TextBytes.{skip_blanks}
 use Rattle.json_blocks.proofs.BlockLaws.{spaces_pass}
 use Rattle.json_blocks.proofs.blocks.skip_spaces.Goals as goal
 

@@ -1,11 +1,7 @@
-use borrow.Author.Rules.{rules}
-use native.Mathlib.Omega.{arith}
 use lib.ListN.{length}
-use Prim.Native.Nat.{◌-◌, ◌+◌}
-use mathlib.Core.Path.{◌≡◌, refl, sym, ◌∙◌}
-use borrow.Author.Tests.{leb-true}
+use Prim.Native.Nat.{◌-◌}
+use mathlib.Core.Path.{◌≡◌}
 use Rattle.json_blocks.specs.TextBytes.{skip_blanks}
-use Rattle.json_blocks.proofs.BlockLaws.{spaces_pass}
 use Rattle.json_blocks.proofs.blocks.skip_spaces.Given as goal
 
 abbrev pub invariant-loop-i : goal.invariant-loop-i

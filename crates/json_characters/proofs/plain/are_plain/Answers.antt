@@ -1,9 +1,7 @@
-use borrow.Author.Rules.{rules}
 use native.Mathlib.Omega.{arith}
-use Prim.Native.Nat.{◌≤◌, ◌-◌, ◌+◌}
-use mathlib.Core.Path.{◌≡◌, ap, ◌∙◌}
+use mathlib.Core.Path.{ap, ◌∙◌}
 use mathlib.Core.Bool.{Bool, ◌&&◌}
-use Rattle.json_blocks.specs.Blocks.{plain_byte, all_at}
+use Rattle.json_blocks.specs.Blocks.{plain_byte}
 use Rattle.json_blocks.proofs.BlockLaws.{all_start, all_on, all_end}
 use Rattle.json_characters.proofs.plain.are_plain.Goals as goal
 

@@ -1,11 +1,6 @@
-use borrow.Author.Rules.{rules}
-use native.Mathlib.Omega.{arith}
 use lib.ListN.{length}
-use Prim.Native.Nat.{◌-◌, ◌+◌}
-use mathlib.Core.Path.{sym, ◌∙◌}
-use borrow.Author.Tests.{leb-true}
+use Prim.Native.Nat.{◌-◌}
 use Rattle.json_blocks.specs.Blocks.{PlainTo}
-use Rattle.json_blocks.proofs.BlockLaws.{plain_start, plain_more}
 use Rattle.json_characters.proofs.plain.skip_plain.Given as goal
 
 abbrev pub invariant-loop-i : goal.invariant-loop-i

@@ -1,8 +1,4 @@
-use borrow.Author.Rules.{rules}
-use lib.ListN.{length}
-use Prim.Native.Nat.{◌-◌}
-use mathlib.Core.Path.{◌≡◌, refl, sym, ◌∙◌}
-use Rattle.json_blocks.specs.TextBytes.{skip_while}
+use mathlib.Core.Path.{refl, sym, ◌∙◌}
 use Rattle.json_blocks.specs.Blocks.{plain_byte}
 use Rattle.json_blocks.proofs.ByteLaws.{skip_on, skip_out, skip_end}
 use Rattle.json_blocks.proofs.BlockLaws.{no_plain}

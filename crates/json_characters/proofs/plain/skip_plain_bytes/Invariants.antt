@@ -1,12 +1,8 @@
-use borrow.Author.Rules.{rules}
 use lib.ListN.{length}
 use Prim.Native.Nat.{◌-◌}
-use mathlib.Core.Path.{◌≡◌, refl, sym, ◌∙◌}
+use mathlib.Core.Path.{◌≡◌}
 use Rattle.json_blocks.specs.TextBytes.{skip_while}
 use Rattle.json_blocks.specs.Blocks.{plain_byte}
-use Rattle.json_blocks.proofs.ByteLaws.{skip_on, skip_out, skip_end}
-use Rattle.json_blocks.proofs.BlockLaws.{no_plain}
-use Rattle.json_characters.proofs.StringLaws.{plain_skips}
 use Rattle.json_characters.proofs.plain.skip_plain_bytes.Given as goal
 
 abbrev pub invariant-loop-i : goal.invariant-loop-i
