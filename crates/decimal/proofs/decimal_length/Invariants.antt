@@ -1,9 +1,6 @@
-use borrow.Author.Rules.{rules}
-use native.Mathlib.Omega.{arith}
 use lib.ListN.{length}
 use Prim.Native.Nat.{◌+◌}
-use mathlib.Core.Path.{◌≡◌, refl}
-use Rattle.decimal.proofs.PutLaws.{count_room, count_on, count_1, count_2, count_3, count_4}
+use mathlib.Core.Path.{◌≡◌}
 use Rattle.decimal.specs.Decimal.{digits_of}
 use Rattle.decimal.proofs.decimal_length.Given as goal
 

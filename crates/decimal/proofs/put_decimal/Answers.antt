@@ -1,7 +1,6 @@
 use native.Mathlib.Omega.{arith}
 use Rattle.output.proofs.Writing.{put_none, put_some}
 use Rattle.decimal.specs.Decimal.{digits_of}
-use borrow.Author.Rules.{rules}
 use Rattle.decimal.proofs.put_decimal.Goals as goal
 
 pub returns-then-c-out : goal.returns-then-c-out

@@ -1,4 +1,3 @@
-use borrow.Author.Rules.{rules}
 use Rattle.decimal.proofs.PutLaws.{word_over, field_over, field_put}
 use Rattle.decimal.proofs.put_field.Goals as goal
 

@@ -1,4 +1,3 @@
-use borrow.Author.Rules.{rules}
 use Rattle.first_line.proofs.Laws.{after_over, after_in}
 use Rattle.first_line.proofs.after.Goals as goal
 

@@ -1,8 +1,7 @@
-use borrow.Author.Rules.{rules}
 use native.Mathlib.Omega.{arith}
 use Prim.Native.Nat.{◌-◌}
 use mathlib.Core.Path.{sym, ◌∙◌}
-use Rattle.first_line.proofs.Laws.{Reading, read_begin, read_many, read_over, read_on, read_none, read_other, read_feed}
+use Rattle.first_line.proofs.Laws.{read_begin, read_many, read_over, read_on, read_none, read_other, read_feed}
 use Rattle.json_blocks.proofs.ByteLaws.{within_is}
 use Rattle.first_line.proofs.first_line.Goals as goal
 

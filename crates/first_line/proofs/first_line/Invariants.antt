@@ -1,9 +1,5 @@
-use borrow.Author.Rules.{rules}
-use native.Mathlib.Omega.{arith}
 use Prim.Native.Nat.{◌-◌}
-use mathlib.Core.Path.{sym, ◌∙◌}
-use Rattle.first_line.proofs.Laws.{Reading, read_begin, read_many, read_over, read_on, read_none, read_other, read_feed}
-use Rattle.json_blocks.proofs.ByteLaws.{within_is}
+use Rattle.first_line.proofs.Laws.{Reading}
 use Rattle.first_line.proofs.first_line.Given as goal
 
 abbrev pub invariant-loop-n : goal.invariant-loop-n

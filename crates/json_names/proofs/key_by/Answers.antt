@@ -1,15 +1,8 @@
-use borrow.Author.Rules.{rules}
 use native.Mathlib.Omega.{arith}
-use lib.ListN.{length}
-use Prim.Native.Nat.{◌<◌}
-use mathlib.Core.Path.{◌≡◌, ap, ◌∙◌}
-use Rattle.json_strings.specs.Decode.{decoded_from}
+use mathlib.Core.Path.{ap, ◌∙◌}
 use Rattle.json_names.specs.Keys.{key_by}
 use Rattle.json_strings.proofs.DecodeLaws.{stream_start, streamed_next, streamed_end, shorter}
 use Rattle.json_names.proofs.SameLaws.{key_end, key_on}
-use Rattle.json_strings.specs.Decode.{decoded_from}
-use Rattle.json_strings.specs.Stream.{stream}
-use Rattle.json_names.specs.Keys.{key_from}
 use Rattle.json_names.proofs.key_by.Goals as goal
 
 pub loop-b-init : goal.loop-b-init

@@ -1,12 +1,6 @@
-use borrow.Author.Rules.{rules}
-use lib.ListN.{length}
-use mathlib.Core.Path.{◌≡◌, ◌∙◌}
-use Rattle.json_strings.specs.Decode.{decoded_from}
-use Rattle.json_names.specs.Same.{same}
+use mathlib.Core.Path.{◌∙◌}
 use Rattle.json_strings.proofs.DecodeLaws.{stream_start, streamed_next, streamed_end, shorter}
 use Rattle.json_names.proofs.SameLaws.{both_end, left_end, right_end, both_not, both_on}
-use Rattle.json_strings.specs.Decode.{decoded_from}
-use Rattle.json_strings.specs.Stream.{stream}
 use Rattle.json_names.proofs.same_text.Goals as goal
 
 pub loop-x-init : goal.loop-x-init

@@ -1,10 +1,5 @@
-use borrow.Author.Rules.{rules}
 use native.Mathlib.Omega.{arith}
-use lib.ListN.{length, drop}
-use Prim.Native.Nat.{◌≤◌}
-use mathlib.Core.Path.{◌≡◌, refl, ◌∙◌}
-use Rattle.json_strings.specs.Stream.{stream}
-use Rattle.json_names.specs.Same.{same}
+use mathlib.Core.Path.{refl, ◌∙◌}
 use Rattle.json_strings.proofs.DecodeLaws.{streamed_next, streamed_end, shorter}
 use Rattle.json_names.proofs.SameLaws.{is_end, is_over, is_not, is_on}
 use Rattle.json_names.proofs.text_from_is.Goals as goal

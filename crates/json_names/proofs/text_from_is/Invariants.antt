@@ -1,12 +1,8 @@
-use borrow.Author.Rules.{rules}
-use native.Mathlib.Omega.{arith}
 use lib.ListN.{length, drop}
 use Prim.Native.Nat.{◌≤◌}
-use mathlib.Core.Path.{◌≡◌, refl, ◌∙◌}
+use mathlib.Core.Path.{◌≡◌}
 use Rattle.json_strings.specs.Stream.{stream}
 use Rattle.json_names.specs.Same.{same}
-use Rattle.json_strings.proofs.DecodeLaws.{streamed_next, streamed_end, shorter}
-use Rattle.json_names.proofs.SameLaws.{is_end, is_over, is_not, is_on}
 use Rattle.json_names.proofs.text_from_is.Given as goal
 
 abbrev pub invariant-loop-b : goal.invariant-loop-b

@@ -1,7 +1,6 @@
 use mathlib.Core.Path.{sym, ◌∙◌}
 use borrow.Author.Tests.{eq-eqb, ne_eqb}
 use Rattle.json_stream.specs.Stream.{fed_answer}
-use borrow.Author.Rules.{rules}
 use Rattle.json_stream.proofs.feed.Lts as lts
 use Rattle.json_stream.proofs.feed.Goals as goal
 

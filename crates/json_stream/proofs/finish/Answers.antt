@@ -1,7 +1,6 @@
 use mathlib.Core.Path.{sym, ◌∙◌}
 use borrow.Author.Tests.{eq-eqb, ne_eqb, lt-ltb, le-ltb}
 use Rattle.refusals.specs.Refusals.{lowest}
-use borrow.Author.Rules.{rules}
 use Rattle.json_stream.proofs.finish.Lts as lts
 use Rattle.json_stream.proofs.finish.Goals as goal
 

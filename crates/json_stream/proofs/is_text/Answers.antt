@@ -1,7 +1,6 @@
 use mathlib.Core.Path.{sym, ◌∙◌}
 use borrow.Author.Tests.{eq-eqb, ne_eqb}
 use Rattle.json_automaton.specs.Control.{accepting}
-use borrow.Author.Rules.{rules}
 use Rattle.json_stream.proofs.is_text.Lts as lts
 use Rattle.json_stream.proofs.is_text.Goals as goal
 

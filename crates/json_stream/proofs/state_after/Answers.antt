@@ -1,7 +1,6 @@
 use native.Mathlib.Omega.{arith}
 use mathlib.Core.Path.{◌∙◌}
 use Rattle.json_stream.proofs.Laws.{fed_long, fed_short}
-use borrow.Author.Rules.{rules}
 use Rattle.json_stream.proofs.state_after.Lts as lts
 use Rattle.json_stream.proofs.state_after.Goals as goal
 

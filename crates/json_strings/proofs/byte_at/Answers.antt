@@ -1,5 +1,4 @@
 use Rattle.json_strings.proofs.DecodeLaws.{next_plain, next_plain_none, next_over, next_quote}
-use borrow.Author.Rules.{rules}
 use Rattle.json_strings.proofs.byte_at.Goals as goal
 
 pub returns-then-b-eq34 : goal.returns-then-b-eq34

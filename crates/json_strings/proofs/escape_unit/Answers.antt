@@ -1,7 +1,6 @@
 use native.Mathlib.Omega.{arith}
 use Rattle.json_blocks.proofs.ByteLaws.{inside}
 use Rattle.json_strings.proofs.DecodeLaws.{escape_1, escape_2, escape_3, short_inside}
-use borrow.Author.Rules.{rules}
 use Rattle.json_strings.proofs.escape_unit.Goals as goal
 
 pub overflow_add-at : goal.overflow_add-at

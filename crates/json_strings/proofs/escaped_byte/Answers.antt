@@ -2,7 +2,6 @@ use Rattle.json_strings.proofs.DecodeLaws.{escape_byte, escape_byte_none, escape
 use mathlib.Core.Path.{◌∙◌}
 use Rattle.json_strings.proofs.DecodeLaws.{unit_escape}
 use Rattle.json_strings.proofs.LengthLaws.{unit_point}
-use borrow.Author.Rules.{rules}
 use Rattle.json_strings.proofs.escaped_byte.Goals as goal
 
 pub returns-then-passed-eq0 : goal.returns-then-passed-eq0

@@ -1,10 +1,7 @@
-use borrow.Author.Rules.{rules}
 use native.Mathlib.Omega.{arith}
-use lib.ListN.{length}
 use Prim.Native.Nat.{◌-◌}
-use mathlib.Core.Path.{◌≡◌, refl, sym, ◌∙◌}
-use Rattle.json_strings.specs.Decode.{is_body, body_turn}
-use Rattle.json_blocks.specs.Turns.{run_text}
+use mathlib.Core.Path.{refl, sym, ◌∙◌}
+use Rattle.json_strings.specs.Decode.{is_body}
 use mathlib.Core.Bool.{false}
 use Rattle.json_strings.proofs.DecodeLaws.{body_end, body_quote, body_bad, body_less, body_on, body_skip_less, body_skip_on}
 use Rattle.json_strings.proofs.is_body.Goals as goal

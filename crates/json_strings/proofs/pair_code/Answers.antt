@@ -1,6 +1,5 @@
 use mathlib.Core.Path.{refl}
 use Rattle.json_strings.specs.Decode.{pair_code}
-use borrow.Author.Rules.{rules}
 use Rattle.json_strings.proofs.pair_code.Goals as goal
 
 pub returns : goal.returns

@@ -3,7 +3,6 @@ use Prim.Native.Nat.{ℕ}
 use mathlib.Core.Path.{sym, ap, ◌∙◌}
 use Rattle.json_strings.specs.Utf8.{utf8}
 use Rattle.json_strings.proofs.DecodeLaws.{byte_later}
-use borrow.Author.Rules.{rules}
 use Rattle.json_strings.proofs.utf8_byte.Goals as goal
 
 pub returns-then-k-eq0 : goal.returns-then-k-eq0

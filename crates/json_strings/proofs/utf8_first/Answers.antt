@@ -1,6 +1,5 @@
 use borrow.Author.Tests.{lt-ltb, le-ltb}
 use Rattle.json_strings.specs.Utf8.{utf8}
-use borrow.Author.Rules.{rules}
 use Rattle.json_strings.proofs.utf8_first.Goals as goal
 
 pub returns-then-p-lt128 : goal.returns-then-p-lt128

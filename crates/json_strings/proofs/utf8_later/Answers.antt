@@ -1,6 +1,5 @@
 use borrow.Author.Tests.{eq-eqb, ne_eqb}
 use Rattle.json_strings.specs.Utf8Code.{later_byte}
-use borrow.Author.Rules.{rules}
 use Rattle.json_strings.proofs.utf8_later.Goals as goal
 
 pub returns-then-j-eq0 : goal.returns-then-j-eq0

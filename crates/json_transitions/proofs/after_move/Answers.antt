@@ -1,7 +1,6 @@
 use mathlib.Core.Path.{sym, ◌∙◌}
 use borrow.Author.Tests.{eq-eqb, ne_eqb, lt-ltb, le-ltb}
 use Rattle.json_automaton.specs.Control.{after_move}
-use borrow.Author.Rules.{rules}
 use Rattle.json_transitions.proofs.after_move.Lts as lts
 use Rattle.json_transitions.proofs.after_move.Goals as goal
 

@@ -1,5 +1,4 @@
 use mathlib.Core.Path.{sym, ◌∙◌}
-use borrow.Author.Rules.{rules}
 use Rattle.json_transitions.proofs.close_of.Lts as lts
 use Rattle.json_transitions.proofs.close_of.Goals as goal
 

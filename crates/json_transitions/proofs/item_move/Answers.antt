@@ -1,7 +1,6 @@
 use mathlib.Core.Path.{sym, ◌∙◌}
 use borrow.Author.Tests.{eq-eqb, ne_eqb}
 use Rattle.json_automaton.specs.Control.{item_move}
-use borrow.Author.Rules.{rules}
 use Rattle.json_transitions.proofs.item_move.Lts as lts
 use Rattle.json_transitions.proofs.item_move.Goals as goal
 

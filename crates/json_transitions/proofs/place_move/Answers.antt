@@ -2,7 +2,6 @@ use native.Mathlib.Omega.{arith}
 use mathlib.Core.Path.{sym, ◌∙◌}
 use Rattle.json_automaton.specs.Control.{place_move, place_moves}
 use Rattle.json_transitions.proofs.Laws.{place_none}
-use borrow.Author.Rules.{rules}
 use Rattle.json_transitions.proofs.place_move.Lts as lts
 use Rattle.json_transitions.proofs.place_move.Goals as goal
 

@@ -1,6 +1,5 @@
 use borrow.Author.Tests.{lt-ltb, le-ltb}
 use Rattle.json_automaton.specs.Control.{push}
-use borrow.Author.Rules.{rules}
 use Rattle.json_transitions.proofs.push.Lts as lts
 use Rattle.json_transitions.proofs.push.Goals as goal
 

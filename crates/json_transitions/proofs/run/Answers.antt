@@ -1,9 +1,6 @@
-use borrow.Author.Rules.{rules}
 use native.Mathlib.Omega.{arith}
-use lib.ListN.{length, drop}
 use Prim.Native.Nat.{◌-◌}
-use mathlib.Core.Path.{◌≡◌, refl, sym, ◌∙◌}
-use Rattle.json_automaton.specs.Control.{run_moves}
+use mathlib.Core.Path.{refl, sym, ◌∙◌}
 use Rattle.json_automaton.proofs.Accept.{run_past}
 use Rattle.json_transitions.proofs.Laws.{run_on}
 use Rattle.json_transitions.proofs.run.Lts as lts

@@ -1,4 +1,3 @@
-use borrow.Author.Rules.{rules}
 use Rattle.json_transitions.proofs.Laws.{kept_lost, kept_blanks}
 use Rattle.json_transitions.proofs.skip_between.Lts as lts
 use Rattle.json_transitions.proofs.skip_between.Goals as goal

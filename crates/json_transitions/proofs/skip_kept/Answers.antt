@@ -1,4 +1,3 @@
-use borrow.Author.Rules.{rules}
 use Rattle.json_transitions.proofs.Laws.{kept_plain, kept_here}
 use Rattle.json_transitions.proofs.skip_kept.Lts as lts
 use Rattle.json_transitions.proofs.skip_kept.Goals as goal

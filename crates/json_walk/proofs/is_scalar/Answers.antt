@@ -1,7 +1,6 @@
 use mathlib.Core.Path.{sym, ◌∙◌}
 use borrow.Author.Tests.{eq-eqb, ne_eqb}
 use Rattle.json_grammar.specs.Skip.{token_byte}
-use borrow.Author.Rules.{rules}
 use Rattle.json_walk.proofs.is_scalar.Goals as goal
 
 pub returns-then-b-eq0 : goal.returns-then-b-eq0

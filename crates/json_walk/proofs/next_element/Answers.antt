@@ -1,5 +1,4 @@
 use Rattle.json_walk.proofs.WalkLaws.{element_found_lem, element_none}
-use borrow.Author.Rules.{rules}
 use Rattle.json_walk.proofs.next_element.Goals as goal
 
 pub returns-then-at-w : goal.returns-then-at-w

@@ -1,7 +1,6 @@
 use native.Mathlib.Omega.{arith}
 use Rattle.json_blocks.proofs.ByteLaws.{inside}
 use Rattle.json_walk.proofs.WalkLaws.{next_comma, next_close}
-use borrow.Author.Rules.{rules}
 use Rattle.json_walk.proofs.next_item.Goals as goal
 
 pub overflow_add-k : goal.overflow_add-k

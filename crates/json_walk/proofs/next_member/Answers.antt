@@ -1,6 +1,5 @@
 use mathlib.Core.Path.{sym, ◌∙◌}
 use Rattle.json_walk.proofs.WalkLaws.{member_unnamed, member_named}
-use borrow.Author.Rules.{rules}
 use Rattle.json_walk.proofs.next_member.Goals as goal
 
 pub returns-in_default : goal.returns-in_default

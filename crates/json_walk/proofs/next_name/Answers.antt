@@ -3,7 +3,6 @@ use Prim.Native.Nat.{◌+◌}
 use Rattle.json_blocks.proofs.ByteLaws.{inside}
 use Rattle.json_grammar.proofs.SkipLaws.{quoted_onward}
 use Rattle.json_walk.proofs.WalkLaws.{name_none, name_bare, name_found}
-use borrow.Author.Rules.{rules}
 use Rattle.json_walk.proofs.next_name.Goals as goal
 
 pub overflow_add-at : goal.overflow_add-at

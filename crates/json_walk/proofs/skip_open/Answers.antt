@@ -1,8 +1,6 @@
-use borrow.Author.Rules.{rules}
 use native.Mathlib.Omega.{arith}
-use lib.ListN.{length}
-use Prim.Native.Nat.{◌≤◌, ◌-◌, ◌+◌}
-use mathlib.Core.Path.{◌≡◌, refl, sym, ap, ◌∙◌}
+use Prim.Native.Nat.{◌-◌, ◌+◌}
+use mathlib.Core.Path.{refl, sym, ap, ◌∙◌}
 use Rattle.json_grammar.specs.Skip.{skip_open}
 use Rattle.json_grammar.proofs.SkipLaws.{quoted_onward, open_end, open_string, open_opens, open_last, open_closes, open_other}
 use Rattle.json_walk.proofs.skip_open.Goals as goal

@@ -1,11 +1,8 @@
-use borrow.Author.Rules.{rules}
 use native.Mathlib.Omega.{arith}
-use lib.ListN.{length}
 use Prim.Native.Nat.{◌-◌}
-use mathlib.Core.Path.{◌≡◌, refl, sym, ◌∙◌}
+use mathlib.Core.Path.{refl, sym, ◌∙◌}
 use Rattle.json_blocks.specs.Blocks.{ordinary_byte}
 use Rattle.json_blocks.proofs.BlockLaws.{block_room, block_good}
-use Rattle.json_grammar.specs.Skip.{skip_string}
 use Rattle.json_walk.proofs.WalkLaws.{ordinary_pass}
 use Rattle.json_walk.proofs.skip_ordinary.Goals as goal
 

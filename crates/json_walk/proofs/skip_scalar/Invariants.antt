@@ -1,12 +1,8 @@
-use borrow.Author.Rules.{rules}
-use native.Mathlib.Omega.{arith}
 use lib.ListN.{length}
 use Prim.Native.Nat.{◌-◌}
-use mathlib.Core.Path.{◌≡◌, refl, sym, ◌∙◌}
+use mathlib.Core.Path.{◌≡◌}
 use Rattle.json_grammar.specs.Skip.{token_byte}
 use Rattle.json_blocks.specs.TextBytes.{skip_while}
-use Rattle.json_blocks.proofs.ByteLaws.{good_inside, skip_on, skip_out}
-use Rattle.json_grammar.proofs.SkipLaws.{no_scalar}
 use Rattle.json_walk.proofs.skip_scalar.Given as goal
 
 abbrev pub invariant-loop-i : goal.invariant-loop-i

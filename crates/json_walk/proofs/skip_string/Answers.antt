@@ -1,9 +1,5 @@
-use borrow.Author.Rules.{rules}
-use native.Mathlib.Omega.{arith}
-use lib.ListN.{length}
 use Prim.Native.Nat.{◌-◌}
-use mathlib.Core.Path.{◌≡◌, refl, ◌∙◌}
-use Rattle.json_grammar.specs.Skip.{skip_string}
+use mathlib.Core.Path.{refl, ◌∙◌}
 use Rattle.json_grammar.proofs.SkipLaws.{quoted_end, quoted_close, quoted_escape, quoted_other}
 use Rattle.json_walk.proofs.skip_string.Goals as goal
 

@@ -1,10 +1,7 @@
-use borrow.Author.Rules.{rules}
-use native.Mathlib.Omega.{arith}
 use lib.ListN.{length}
 use Prim.Native.Nat.{◌-◌}
-use mathlib.Core.Path.{◌≡◌, refl, ◌∙◌}
+use mathlib.Core.Path.{◌≡◌}
 use Rattle.json_grammar.specs.Skip.{skip_string}
-use Rattle.json_grammar.proofs.SkipLaws.{quoted_end, quoted_close, quoted_escape, quoted_other}
 use Rattle.json_walk.proofs.skip_string.Given as goal
 
 abbrev pub invariant-loop-i : goal.invariant-loop-i

@@ -4,7 +4,6 @@ use Rattle.json_grammar.specs.Skip.{opens}
 use Rattle.json_blocks.proofs.ByteLaws.{inside, good_inside}
 use Rattle.json_grammar.proofs.SkipLaws.{value_string, value_opens, value_scalar}
 use Rattle.json_walk.proofs.WalkLaws.{open_inside}
-use borrow.Author.Rules.{rules}
 use Rattle.json_walk.proofs.skip_value.Goals as goal
 
 pub overflow_add-at : goal.overflow_add-at

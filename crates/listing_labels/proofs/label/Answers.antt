@@ -1,7 +1,6 @@
 use mathlib.Core.Path.{refl, ap}
 use Rattle.table.specs.declared.Annotation.{Annotation}
 use Rattle.listing_labels.proofs.LabelLaws.{answer_18, answer_19, answer_row, part_of, number_of, presence_of, place_of, at_front}
-use borrow.Author.Rules.{rules}
 use Rattle.listing_labels.proofs.label.Goals as goal
 
 pub returns-then-n-t : goal.returns-then-n-t

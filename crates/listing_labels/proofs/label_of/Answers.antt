@@ -1,6 +1,5 @@
 use mathlib.Core.Path.{refl}
 use Rattle.listing_labels.proofs.LabelLaws.{of_absent, of_stands, of_not, part_of, number_of, presence_of, place_of, at_front, at_label}
-use borrow.Author.Rules.{rules}
 use Rattle.listing_labels.proofs.label_of.Goals as goal
 
 pub returns-then-is_absent : goal.returns-then-is_absent

@@ -1,9 +1,6 @@
-use borrow.Author.Rules.{rules}
 use Prim.Native.Nat.{◌-◌}
-use mathlib.Core.Path.{◌≡◌, refl}
+use mathlib.Core.Path.{refl}
 use Rattle.listing_labels.proofs.LabelLaws.{labels_end, labels_on, labels_bad}
-use Rattle.listing_labels.specs.Label.{labels_ok}
-use Rattle.table.specs.Rows.{annotation_at, rest}
 use Rattle.listing_labels.proofs.labels_ok.Goals as goal
 
 pub loop-k-init : goal.loop-k-init

@@ -1,7 +1,5 @@
-use borrow.Author.Rules.{rules}
 use Prim.Native.Nat.{◌-◌}
-use mathlib.Core.Path.{◌≡◌, refl}
-use Rattle.listing_labels.proofs.LabelLaws.{labels_end, labels_on, labels_bad}
+use mathlib.Core.Path.{◌≡◌}
 use Rattle.listing_labels.specs.Label.{labels_ok}
 use Rattle.table.specs.Rows.{annotation_at, rest}
 use Rattle.listing_labels.proofs.labels_ok.Given as goal

@@ -1,5 +1,4 @@
 use Rattle.listing_labels.proofs.TextLaws.{good_absent, good_stands}
-use borrow.Author.Rules.{rules}
 use Rattle.listing_labels.proofs.text_good.Goals as goal
 
 pub returns-then-is_absent : goal.returns-then-is_absent

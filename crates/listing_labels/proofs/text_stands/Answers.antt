@@ -1,5 +1,4 @@
 use Rattle.listing_labels.proofs.TextLaws.{stands_no_first, stands_over, stands_long, stands_no_quote, stands_open, stands_body}
-use borrow.Author.Rules.{rules}
 use Rattle.listing_labels.proofs.text_stands.Goals as goal
 
 pub returns-then-p-lt1 : goal.returns-then-p-lt1

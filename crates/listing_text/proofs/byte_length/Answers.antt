@@ -1,5 +1,4 @@
 use Rattle.listing_text.proofs.ShownLaws.{byte_plain, byte_hex}
-use borrow.Author.Rules.{rules}
 use Rattle.listing_text.proofs.byte_length.Goals as goal
 
 pub returns-then-is_as_it_is : goal.returns-then-is_as_it_is

@@ -1,5 +1,4 @@
 use Rattle.listing_text.proofs.ShownLaws.{hex_low, hex_high}
-use borrow.Author.Rules.{rules}
 use Rattle.listing_text.proofs.hex_digit.Goals as goal
 
 pub returns-then-d-lt10 : goal.returns-then-d-lt10

@@ -1,5 +1,4 @@
 use Rattle.listing_text.proofs.ShownLaws.{as_out, as_quote, as_slash, as_plain}
-use borrow.Author.Rules.{rules}
 use Rattle.listing_text.proofs.is_as_it_is.Goals as goal
 
 pub returns-then-b-eq34 : goal.returns-then-b-eq34

@@ -2,7 +2,6 @@ use native.Mathlib.Omega.{arith}
 use Rattle.listing_text.proofs.ShownLaws.{byte_plain, byte_hex, plain_room, plain_put, hex_in_lem, hex_put}
 use lib.Seq.{lt-length-set}
 use lib.ListN.{set}
-use borrow.Author.Rules.{rules}
 use Rattle.listing_text.proofs.put_byte.Goals as goal
 
 pub bounds-out-0 : goal.bounds-out-0

@@ -1,5 +1,4 @@
 use Rattle.listing_text.proofs.ShownLaws.{none_long, none_room, none_put, quoted_same, quoted_room, quoted_put}
-use borrow.Author.Rules.{rules}
 use Rattle.listing_text.proofs.put_in_room.Goals as goal
 
 pub bounds-out-0 : goal.bounds-out-0

@@ -1,7 +1,6 @@
 use native.Mathlib.Omega.{arith}
 use Rattle.listing_text.proofs.ShownLaws.{quoted_parts}
 use Rattle.output.proofs.Writing.{writes_none, writes_end, writes_long, byte_inside, byte_sum, writes_byte, next_from, next_room, next_sum, writes_next}
-use borrow.Author.Rules.{rules}
 use Rattle.listing_text.proofs.put_quoted.Goals as goal
 
 pub bounds-out-0 : goal.bounds-out-0

@@ -1,14 +1,7 @@
-use borrow.Author.Rules.{rules}
 use native.Mathlib.Omega.{arith}
-use lib.ListN.{length}
 use Rattle.listing_text.proofs.ShownLaws.{shown_parts, shown_on, shown_close}
-use Rattle.output.proofs.Writing.{Writes, writes_none, writes_end, writes_long, next_from, next_room, next_sum, writes_next}
+use Rattle.output.proofs.Writing.{writes_none, writes_end, writes_long, next_from, next_room, next_sum, writes_next}
 use Rattle.json_strings.proofs.DecodeLaws.{streamed_next, streamed_end, shorter}
-use Rattle.listing_text.specs.Shown.{shown_byte}
-use Rattle.table.specs.Rows.{flat}
-use Rattle.json_strings.specs.Decode.{decoded_from}
-use Rattle.json_strings.specs.Stream.{stream}
-use mathlib.Core.List.{[], ◌∷◌}
 use Rattle.listing_text.proofs.put_shown.Goals as goal
 
 pub loop-b-init : goal.loop-b-init

@@ -1,7 +1,6 @@
 use Rattle.listing_text.specs.Shown.{shown_text}
 use Rattle.output.proofs.LeftLaws.{put_over, put_room}
 use Rattle.output.proofs.Writing.{put_some}
-use borrow.Author.Rules.{rules}
 use Rattle.listing_text.proofs.put_text.Goals as goal
 
 pub returns-in_default : goal.returns-in_default

@@ -1,12 +1,9 @@
-use borrow.Author.Rules.{rules}
 use lib.ListN.{length}
 use mathlib.Core.Path.{◌≡◌}
-use Rattle.json_strings.proofs.DecodeLaws.{streamed_next, streamed_end, shorter}
 use Rattle.json_strings.specs.Stream.{stream}
 use Rattle.table.specs.Rows.{flat}
 use Rattle.output.specs.Left.{left_after}
 use Rattle.listing_text.specs.Shown.{shown_byte, quoted}
-use Rattle.listing_text.proofs.ShownLaws.{quotes_over, text_begin, text_end, text_over, text_on}
 use Rattle.listing_text.proofs.quoted_left.Given as goal
 
 abbrev pub invariant-loop-b : goal.invariant-loop-b

@@ -1,5 +1,4 @@
 use Rattle.listing_text.proofs.ShownLaws.{none_over, none_left, quoted_leaves}
-use borrow.Author.Rules.{rules}
 use Rattle.listing_text.proofs.text_left.Goals as goal
 
 pub returns-then-room-lt1 : goal.returns-then-room-lt1

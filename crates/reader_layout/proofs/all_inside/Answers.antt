@@ -1,5 +1,4 @@
 use Rattle.reader_layout.proofs.StageLaws.{all_end, all_no, all_yes}
-use borrow.Author.Rules.{rules}
 use Rattle.reader_layout.proofs.all_inside.Lts as lts
 use Rattle.reader_layout.proofs.all_inside.Goals as goal
 

@@ -1,12 +1,9 @@
-use borrow.Author.Rules.{rules}
 use Prim.Native.Nat.{◌≤◌, ◌-◌}
 use mathlib.Core.Path.{◌≡◌}
 use Rattle.reader_layout.specs.Entries.{note_at}
 use Rattle.table.specs.Rows.{rest}
 use Rattle.table.specs.Samples.{ascending_from}
 use Rattle.reader_layout.specs.Stages.{note_starts}
-use Rattle.reader_layout.proofs.StageLaws.{up_done, up_bad, up_on}
-use Rattle.table.specs.declared.AnnotationEntry.{AnnotationEntry}
 use Rattle.reader_layout.proofs.annotations_ascend.Lts as lts
 use Rattle.reader_layout.proofs.annotations_ascend.Given as goal
 

@@ -1,12 +1,9 @@
-use borrow.Author.Rules.{rules}
 use Prim.Native.Nat.{◌≤◌, ◌-◌}
 use mathlib.Core.Path.{◌≡◌}
 use Rattle.reader_layout.specs.Entries.{entry_at}
 use Rattle.table.specs.Rows.{rest}
 use Rattle.table.specs.Samples.{ascending_from}
 use Rattle.reader_layout.specs.Stages.{capture_starts}
-use Rattle.reader_layout.proofs.StageLaws.{up_done, up_bad, up_on}
-use Rattle.table.specs.declared.CaptureEntry.{CaptureEntry}
 use Rattle.reader_layout.proofs.captures_ascend.Lts as lts
 use Rattle.reader_layout.proofs.captures_ascend.Given as goal
 

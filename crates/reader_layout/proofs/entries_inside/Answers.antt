@@ -1,9 +1,5 @@
 use borrow.Author.Rules.{rules}
-use Prim.Native.Nat.{◌≤◌, ◌-◌}
-use mathlib.Core.Path.{◌≡◌}
-use Rattle.reader_layout.specs.Entries.{entry_at, capture_entries}
-use Rattle.table.specs.Rows.{rest}
-use Rattle.table.specs.Samples.{all_entries}
+use Prim.Native.Nat.{◌-◌}
 use Rattle.reader_layout.proofs.StageLaws.{ins_done, ins_low, ins_high, ins_on}
 use Rattle.reader_layout.proofs.entries_inside.Lts as lts
 use Rattle.reader_layout.proofs.entries_inside.Goals as goal

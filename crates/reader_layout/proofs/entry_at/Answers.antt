@@ -1,5 +1,4 @@
 use Rattle.reader_layout.proofs.EntryLaws.{entry_in, entry_out}
-use borrow.Author.Rules.{rules}
 use Rattle.reader_layout.proofs.entry_at.Lts as lts
 use Rattle.reader_layout.proofs.entry_at.Goals as goal
 

@@ -1,5 +1,4 @@
 use Rattle.reader_layout.proofs.StageLaws.{format_1, format_9, format_few, format_many, format_0}
-use borrow.Author.Rules.{rules}
 use Rattle.reader_layout.proofs.format_refusal.Lts as lts
 use Rattle.reader_layout.proofs.format_refusal.Goals as goal
 

@@ -1,6 +1,5 @@
-use borrow.Author.Rules.{rules}
 use Prim.Native.Nat.{◌-◌}
-use Rattle.reader_layout.proofs.StageLaws.{Summing, sum_begin, sum_done, sum_over, sum_fits, sum_on}
+use Rattle.reader_layout.proofs.StageLaws.{Summing}
 use Rattle.reader_layout.proofs.header_sum.Lts as lts
 use Rattle.reader_layout.proofs.header_sum.Given as goal
 

@@ -1,5 +1,4 @@
 use Rattle.reader_layout.proofs.StageLaws.{both_no, both_yes}
-use borrow.Author.Rules.{rules}
 use Rattle.reader_layout.proofs.in_order.Lts as lts
 use Rattle.reader_layout.proofs.in_order.Goals as goal
 

@@ -1,5 +1,4 @@
 use Rattle.reader_layout.proofs.WriteLaws.{next_some, next_none}
-use borrow.Author.Rules.{rules}
 use Rattle.reader_layout.proofs.next_start.Lts as lts
 use Rattle.reader_layout.proofs.next_start.Goals as goal
 

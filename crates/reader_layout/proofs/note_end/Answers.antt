@@ -1,5 +1,4 @@
 use Rattle.reader_layout.proofs.WriteLaws.{end_absent, end_given, end_fits}
-use borrow.Author.Rules.{rules}
 use Rattle.reader_layout.proofs.note_end.Lts as lts
 use Rattle.reader_layout.proofs.note_end.Goals as goal
 

@@ -1,5 +1,4 @@
 use Rattle.reader_layout.proofs.StageLaws.{note_low, note_high, note_absent, note_given}
-use borrow.Author.Rules.{rules}
 use Rattle.reader_layout.proofs.note_ok.Lts as lts
 use Rattle.reader_layout.proofs.note_ok.Goals as goal
 

@@ -1,9 +1,5 @@
 use borrow.Author.Rules.{rules}
-use Prim.Native.Nat.{◌≤◌, ◌-◌}
-use mathlib.Core.Path.{◌≡◌}
-use Rattle.reader_layout.specs.Entries.{note_at}
-use Rattle.table.specs.Rows.{rest}
-use Rattle.table.specs.Samples.{all_notes}
+use Prim.Native.Nat.{◌-◌}
 use Rattle.reader_layout.proofs.StageLaws.{in_done, in_bad, in_on}
 use Rattle.reader_layout.proofs.notes_inside.Lts as lts
 use Rattle.reader_layout.proofs.notes_inside.Goals as goal

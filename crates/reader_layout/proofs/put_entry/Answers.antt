@@ -1,7 +1,6 @@
 use native.Mathlib.Omega.{arith}
 use Rattle.reader_layout.proofs.EntryLaws.{entry_put, put_none}
 use lib.ListN.{length-set}
-use borrow.Author.Rules.{rules}
 use Rattle.reader_layout.proofs.put_entry.Lts as lts
 use Rattle.reader_layout.proofs.put_entry.Goals as goal
 

@@ -2,7 +2,6 @@ use native.Mathlib.Omega.{arith}
 use Rattle.reader_layout.proofs.EntryLaws.{note_put, put_none}
 use lib.ListN.{length-set}
 use Rattle.reader_layout.specs.Entries.{note_width}
-use borrow.Author.Rules.{rules}
 use Rattle.reader_layout.proofs.put_note.Lts as lts
 use Rattle.reader_layout.proofs.put_note.Goals as goal
 

@@ -1,6 +1,5 @@
 use Rattle.reader_layout.proofs.JudgeLaws.{judged_format, judged_15, judged_16, judged_17, judged_0, format_small, width_some}
 use Rattle.table.proofs.RowLaws.{rest_length}
-use borrow.Author.Rules.{rules}
 use Rattle.reader_layout.proofs.summary.Lts as lts
 use Rattle.reader_layout.proofs.summary.Goals as goal
 

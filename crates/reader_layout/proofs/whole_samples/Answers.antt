@@ -1,5 +1,4 @@
 use Rattle.reader_layout.proofs.StageLaws.{whole_tail, whole_heads, whole_part, whole_is}
-use borrow.Author.Rules.{rules}
 use Rattle.reader_layout.proofs.whole_samples.Lts as lts
 use Rattle.reader_layout.proofs.whole_samples.Goals as goal
 

@@ -1,6 +1,5 @@
-use borrow.Author.Rules.{rules}
 use Prim.Native.Nat.{◌-◌}
-use Rattle.reader_layout.proofs.WriteLaws.{Noting, notes_begin, notes_end, note_inside, note_on}
+use Rattle.reader_layout.proofs.WriteLaws.{Noting}
 use Rattle.reader_layout.proofs.write_annotations.Lts as lts
 use Rattle.reader_layout.proofs.write_annotations.Given as goal
 

@@ -1,6 +1,5 @@
-use borrow.Author.Rules.{rules}
 use Prim.Native.Nat.{◌-◌}
-use Rattle.reader_layout.proofs.WriteLaws.{Rowing, rows_begin, rows_end, row_low, row_fits, row_below, row_on}
+use Rattle.reader_layout.proofs.WriteLaws.{rows_begin, rows_end, row_low, row_fits, row_below, row_on}
 use Rattle.reader_layout.proofs.write_captures.Lts as lts
 use Rattle.reader_layout.proofs.write_captures.Goals as goal
 

@@ -1,6 +1,5 @@
 use native.Mathlib.Omega.{arith}
 use Rattle.sigmf_datatypes.proofs.Laws.{entry_complex, entry_real, unit_most}
-use borrow.Author.Rules.{rules}
 use Rattle.sigmf_datatypes.proofs.channel_bytes.Goals as goal
 
 pub overflow_mul-result : goal.overflow_mul-result

@@ -2,7 +2,7 @@
 use mathlib.Core.Path.{◌∙◌}
 use native.Mathlib.Omega.{arith}
 use Rattle.sigmf_datatypes.specs.Datatypes.{datatypes, twelve, datatype_of}
-use Rattle.sigmf_datatypes.proofs.Laws.{count, entry_none}
+use Rattle.sigmf_datatypes.proofs.Laws.{entry_none}
 use Rattle.sigmf_datatypes.proofs.entry_of.Goals as goal
 
 pub returns-in-0 : goal.returns-in-0

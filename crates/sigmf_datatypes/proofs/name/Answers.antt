@@ -1,5 +1,4 @@
 use Rattle.sigmf_datatypes.proofs.Laws.{entry_name}
-use borrow.Author.Rules.{rules}
 use Rattle.sigmf_datatypes.proofs.name.Goals as goal
 
 pub returns : goal.returns

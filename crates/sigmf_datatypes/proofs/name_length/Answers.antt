@@ -1,9 +1,5 @@
-use native.Mathlib.Omega.{arith}
-use lib.ListN.{length, get_or, drop}
-use Prim.Native.Nat.{ℕ, ◌≤◌, ◌<◌, ◌-◌, ◌+◌, ◌*◌}
-use mathlib.Core.Path.{◌≡◌, refl, sym, ap, ◌∙◌}
+use Prim.Native.Nat.{◌-◌}
 use Rattle.sigmf_datatypes.proofs.Laws.{entry_chars}
-use borrow.Author.Rules.{rules}
 use Rattle.sigmf_datatypes.proofs.name_length.Lts as lts
 use Rattle.sigmf_datatypes.proofs.name_length.Goals as goal
 

@@ -1,5 +1,4 @@
 use Rattle.sigmf_datatypes.proofs.Laws.{width_none, width_zero, width_many, width_is, width_fits, unlisted, is_listed_lem}
-use borrow.Author.Rules.{rules}
 use Rattle.sigmf_datatypes.proofs.sample_bytes.Goals as goal
 
 pub returns-then-code-ge-COUNT : goal.returns-then-code-ge-COUNT

@@ -1,14 +1,9 @@
-use borrow.Author.Rules.{rules}
 use native.Mathlib.Omega.{arith}
-use lib.ListN.{length, drop}
-use Prim.Native.Nat.{◌-◌, ◌+◌}
-use mathlib.Core.Path.{◌≡◌, sym, ◌∙◌}
+use Prim.Native.Nat.{◌-◌}
+use mathlib.Core.Path.{sym, ◌∙◌}
 use lib.Seq.{length-take-le}
-use Rattle.sigmf_datatypes.specs.Datatypes.{datatypes}
 use Rattle.sigmf_datatypes.proofs.Laws.{counted, listed_below}
-use Rattle.sigmf_texts.specs.Lookup.{index_in}
-use Rattle.sigmf_texts.specs.Texts.{value_text, code_of}
-use Rattle.sigmf_texts.proofs.DatatypeLaws.{named, name_inside, datatype_here, datatype_later, datatype_over}
+use Rattle.sigmf_texts.proofs.DatatypeLaws.{name_inside, datatype_here, datatype_later, datatype_over}
 use Rattle.sigmf_texts.proofs.datatype.Goals as goal
 
 pub slice_bounds-word-end : goal.slice_bounds-word-end

@@ -1,9 +1,5 @@
-use native.Mathlib.Omega.{arith}
-use lib.ListN.{length, get_or, drop}
-use Prim.Native.Nat.{ℕ, ◌≤◌, ◌<◌, ◌-◌, ◌+◌, ◌*◌}
-use mathlib.Core.Path.{◌≡◌, refl, sym, ap, ◌∙◌}
+use Prim.Native.Nat.{◌-◌}
 use Rattle.table.proofs.RowLaws.{annotation_in_lem, annotation_out}
-use borrow.Author.Rules.{rules}
 use Rattle.table.proofs.annotation_at.Lts as lts
 use Rattle.table.proofs.annotation_at.Goals as goal
 

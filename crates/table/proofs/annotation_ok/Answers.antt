@@ -1,9 +1,5 @@
-use native.Mathlib.Omega.{arith}
-use lib.ListN.{length, get_or, drop}
-use Prim.Native.Nat.{ℕ, ◌≤◌, ◌<◌, ◌-◌, ◌+◌, ◌*◌}
-use mathlib.Core.Path.{◌≡◌, refl, sym, ap, ◌∙◌}
+use Prim.Native.Nat.{◌-◌}
 use Rattle.table.proofs.TableLaws.{note_low, note_turn, note_high, note_texts}
-use borrow.Author.Rules.{rules}
 use Rattle.table.proofs.annotation_ok.Lts as lts
 use Rattle.table.proofs.annotation_ok.Goals as goal
 

@@ -1,11 +1,7 @@
-use borrow.Author.Rules.{rules}
-use native.Mathlib.Omega.{arith}
-use lib.ListN.{length, get_or, drop}
-use Prim.Native.Nat.{ℕ, ◌≤◌, ◌<◌, ◌-◌, ◌+◌, ◌*◌}
-use mathlib.Core.Path.{◌≡◌, refl, sym, ap, ◌∙◌}
-use Rattle.table.specs.Rows.{capture_at, annotation_at, rest, captures, annotations}
+use Prim.Native.Nat.{◌≤◌, ◌-◌}
+use mathlib.Core.Path.{◌≡◌}
+use Rattle.table.specs.Rows.{annotation_at, rest, annotations}
 use Rattle.table.specs.Judge.{annotations_ok}
-use Rattle.table.proofs.TableLaws.{note_bad, note_on, note_done}
 use Rattle.table.proofs.annotations_ok.Lts as lts
 use Rattle.table.proofs.annotations_ok.Given as goal
 

@@ -1,9 +1,5 @@
-use native.Mathlib.Omega.{arith}
-use lib.ListN.{length, get_or, drop}
-use Prim.Native.Nat.{ℕ, ◌≤◌, ◌<◌, ◌-◌, ◌+◌, ◌*◌}
-use mathlib.Core.Path.{◌≡◌, refl, sym, ap, ◌∙◌}
+use Prim.Native.Nat.{◌-◌}
 use Rattle.table.proofs.TableLaws.{ok_low, ok_high, ok_end, ok_first, part_fits, first_fits}
-use borrow.Author.Rules.{rules}
 use Rattle.table.proofs.capture_ok.Lts as lts
 use Rattle.table.proofs.capture_ok.Goals as goal
 

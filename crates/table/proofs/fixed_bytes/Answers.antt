@@ -1,6 +1,5 @@
 use Prim.Native.Nat.{◌-◌}
 use Rattle.table.proofs.TableLaws.{fixed_many, fixed_part, fixed_mul, fixed_over, fixed_add, fixed_is}
-use borrow.Author.Rules.{rules}
 use Rattle.table.proofs.fixed_bytes.Goals as goal
 
 pub returns-then-n-d : goal.returns-then-n-d

@@ -1,10 +1,6 @@
 use borrow.Author.Rules.{rules}
-use native.Mathlib.Omega.{arith}
-use lib.ListN.{length, get_or, drop}
-use Prim.Native.Nat.{ℕ, ◌≤◌, ◌<◌, ◌-◌, ◌+◌, ◌*◌}
-use mathlib.Core.Path.{◌≡◌, refl, sym, ap, ◌∙◌}
-use Rattle.table.specs.Rows.{capture_at, annotation_at, rest, captures, annotations}
-use Rattle.table.proofs.TableLaws.{Summing, sum_begin, sum_done, sum_over, head_fits, head_below, sum_bad, sum_on}
+use Prim.Native.Nat.{◌-◌}
+use Rattle.table.proofs.TableLaws.{sum_begin, sum_done, sum_over, head_fits, head_below, sum_bad, sum_on}
 use Rattle.table.proofs.header_sum.Lts as lts
 use Rattle.table.proofs.header_sum.Goals as goal
 

@@ -1,10 +1,5 @@
 use borrow.Author.Rules.{rules}
-use native.Mathlib.Omega.{arith}
-use lib.ListN.{length, get_or, drop}
-use Prim.Native.Nat.{ℕ, ◌≤◌, ◌<◌, ◌-◌, ◌+◌, ◌*◌}
-use mathlib.Core.Path.{◌≡◌, refl, sym, ap, ◌∙◌}
-use Rattle.table.specs.Rows.{capture_at, annotation_at, rest, captures, annotations}
-use Rattle.table.specs.Samples.{headers_to}
+use Prim.Native.Nat.{◌-◌}
 use Rattle.table.proofs.LocateLaws.{head_in, head_out, head_sum, head_none}
 use Rattle.table.proofs.headers_to.Lts as lts
 use Rattle.table.proofs.headers_to.Goals as goal

@@ -1,11 +1,7 @@
-use borrow.Author.Rules.{rules}
-use native.Mathlib.Omega.{arith}
-use lib.ListN.{length, get_or, drop}
-use Prim.Native.Nat.{ℕ, ◌≤◌, ◌<◌, ◌-◌, ◌+◌, ◌*◌}
-use mathlib.Core.Path.{◌≡◌, refl, sym, ap, ◌∙◌}
-use Rattle.table.specs.Rows.{capture_at, annotation_at, rest, captures, annotations}
+use Prim.Native.Nat.{◌≤◌, ◌-◌, ◌+◌}
+use mathlib.Core.Path.{◌≡◌}
+use Rattle.table.specs.Rows.{capture_at, rest, captures}
 use Rattle.table.specs.Samples.{headers_to}
-use Rattle.table.proofs.LocateLaws.{head_in, head_out, head_sum, head_none}
 use Rattle.table.proofs.headers_to.Lts as lts
 use Rattle.table.proofs.headers_to.Given as goal
 

@@ -1,10 +1,6 @@
-use native.Mathlib.Omega.{arith}
-use lib.ListN.{length, get_or, drop}
-use Prim.Native.Nat.{ℕ, ◌≤◌, ◌<◌, ◌-◌, ◌+◌, ◌*◌}
-use mathlib.Core.Path.{◌≡◌, refl, sym, ap, ◌∙◌}
+use Prim.Native.Nat.{◌-◌}
 use Rattle.table.proofs.LocateLaws.{loc_18, loc_19, loc_0, truly}
 use Rattle.table.proofs.TableLaws.{laid_of, ends_of}
-use borrow.Author.Rules.{rules}
 use Rattle.table.proofs.locate.Lts as lts
 use Rattle.table.proofs.locate.Goals as goal
 

@@ -1,9 +1,5 @@
-use native.Mathlib.Omega.{arith}
-use lib.ListN.{length, get_or, drop}
-use Prim.Native.Nat.{ℕ, ◌≤◌, ◌<◌, ◌-◌, ◌+◌, ◌*◌}
-use mathlib.Core.Path.{◌≡◌, refl, sym, ap, ◌∙◌}
+use Prim.Native.Nat.{◌-◌}
 use Rattle.table.proofs.TableLaws.{num_said, num_format, num_size, num_ends, num_rate}
-use borrow.Author.Rules.{rules}
 use Rattle.table.proofs.numbers_ok.Lts as lts
 use Rattle.table.proofs.numbers_ok.Goals as goal
 

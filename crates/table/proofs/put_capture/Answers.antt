@@ -1,10 +1,7 @@
 use native.Mathlib.Omega.{arith}
-use lib.ListN.{length, get_or, drop}
-use Prim.Native.Nat.{ℕ, ◌≤◌, ◌<◌, ◌-◌, ◌+◌, ◌*◌}
-use mathlib.Core.Path.{◌≡◌, refl, sym, ap, ◌∙◌}
+use Prim.Native.Nat.{◌-◌}
 use lib.ListN.{length-set}
 use Rattle.table.proofs.RowLaws.{put_in, put_out}
-use borrow.Author.Rules.{rules}
 use Rattle.table.proofs.put_capture.Lts as lts
 use Rattle.table.proofs.put_capture.Goals as goal
 

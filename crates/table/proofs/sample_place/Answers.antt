@@ -1,9 +1,5 @@
-use native.Mathlib.Omega.{arith}
-use lib.ListN.{length, get_or, drop}
-use Prim.Native.Nat.{ℕ, ◌≤◌, ◌<◌, ◌-◌, ◌+◌, ◌*◌}
-use mathlib.Core.Path.{◌≡◌, refl, sym, ap, ◌∙◌}
+use Prim.Native.Nat.{◌-◌}
 use Rattle.table.proofs.LocateLaws.{laid_sum, place_low, place_mul, place_add, place_is}
-use borrow.Author.Rules.{rules}
 use Rattle.table.proofs.sample_place.Lts as lts
 use Rattle.table.proofs.sample_place.Goals as goal
 

@@ -1,9 +1,5 @@
-use native.Mathlib.Omega.{arith}
-use lib.ListN.{length, get_or, drop}
-use Prim.Native.Nat.{ℕ, ◌≤◌, ◌<◌, ◌-◌, ◌+◌, ◌*◌}
-use mathlib.Core.Path.{◌≡◌, refl, sym, ap, ◌∙◌}
+use Prim.Native.Nat.{◌-◌}
 use Rattle.table.proofs.TableLaws.{wf_numbers, wf_wide, wf_small, wf_ends, wf_captures, wf_annotations, wf_layout, wf_rows}
-use borrow.Author.Rules.{rules}
 use Rattle.table.proofs.well_formed.Lts as lts
 use Rattle.table.proofs.well_formed.Goals as goal
 

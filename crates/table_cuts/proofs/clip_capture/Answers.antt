@@ -1,9 +1,5 @@
-use native.Mathlib.Omega.{arith}
-use lib.ListN.{length, get_or, drop}
-use Prim.Native.Nat.{ℕ, ◌≤◌, ◌<◌, ◌-◌, ◌+◌, ◌*◌}
-use mathlib.Core.Path.{◌≡◌, refl, sym, ap, ◌∙◌}
+use Prim.Native.Nat.{◌-◌}
 use Rattle.table_cuts.proofs.CutCode.{clip_fits, clip_capture_lem}
-use borrow.Author.Rules.{rules}
 use Rattle.table_cuts.proofs.clip_capture.Lts as lts
 use Rattle.table_cuts.proofs.clip_capture.Goals as goal
 

@@ -1,10 +1,5 @@
-use native.Mathlib.Omega.{arith}
-use lib.ListN.{length, get_or, drop}
-use Prim.Native.Nat.{ℕ, ◌≤◌, ◌<◌, ◌-◌, ◌+◌, ◌*◌}
-use mathlib.Core.Path.{◌≡◌, refl, sym, ap, ◌∙◌}
+use Prim.Native.Nat.{◌-◌}
 use Rattle.table_cuts.proofs.CutCode.{cut_18, caps_18, notes_18, cut_19, caps_19, notes_19, cut_up, cut_below, cut_20, caps_20, notes_20, cut_20', caps_20', notes_20', cut_0, caps_0, notes_0, captures_room, annotations_room}
-use Rattle.table.proofs.TableLaws.{ends_of}
-use borrow.Author.Rules.{rules}
 use Rattle.table_cuts.proofs.cut.Lts as lts
 use Rattle.table_cuts.proofs.cut.Goals as goal
 

@@ -1,12 +1,7 @@
-use borrow.Author.Rules.{rules}
-use native.Mathlib.Omega.{arith}
-use lib.ListN.{length, get_or, drop}
-use Prim.Native.Nat.{ℕ, ◌≤◌, ◌<◌, ◌-◌, ◌+◌, ◌*◌}
-use mathlib.Core.Path.{◌≡◌, refl, sym, ap, ◌∙◌}
-use Rattle.table.specs.Rows.{capture_width, capture_at, annotation_at, rest, captures, annotations, capture_numbers, annotation_numbers}
-use Rattle.table_cuts.specs.Cut.{shares_capture, shares_annotation, clip_capture, clip_annotation}
-use Rattle.table_cuts.proofs.CutCode.{clip_below}
-use Rattle.table_cuts.proofs.KeepLaws.{Keeping, keep_begin, keep_yes, keep_no, keep_c, keep_end}
+use Prim.Native.Nat.{◌-◌}
+use Rattle.table.specs.Rows.{capture_width, capture_at, capture_numbers}
+use Rattle.table_cuts.specs.Cut.{shares_capture, clip_capture}
+use Rattle.table_cuts.proofs.KeepLaws.{Keeping}
 use Rattle.table_cuts.proofs.write_captures.Lts as lts
 use Rattle.table_cuts.proofs.write_captures.Given as goal
 

@@ -1,8 +1,3 @@
-use native.Mathlib.Omega.{arith}
-use lib.ListN.{length, get_or, drop}
-use Prim.Native.Nat.{ℕ, ◌≤◌, ◌<◌, ◌-◌, ◌+◌, ◌*◌}
-use mathlib.Core.Path.{◌≡◌, refl, sym, ap, ◌∙◌}
-use borrow.Author.Rules.{rules}
 use Rattle.table_cuts.proofs.write_cut.Lts as lts
 use Rattle.table_cuts.proofs.write_cut.Goals as goal
 

@@ -1,9 +1,6 @@
-use native.Mathlib.Omega.{arith}
-use lib.ListN.{length, get_or, drop}
-use Prim.Native.Nat.{ℕ, ◌≤◌, ◌<◌, ◌-◌, ◌+◌, ◌*◌}
-use mathlib.Core.Path.{◌≡◌, refl, sym, ap, ◌∙◌}
+use Prim.Native.Nat.{◌-◌}
 use Rattle.table_pieces.proofs.CopyCode.{copy_18, kept_18, copy_size, kept_size, copy_19, kept_19, copy_up, copy_fits, copy_room, copy_20, kept_20, copy_0, memory_0}
-use Rattle.table.proofs.TableLaws.{laid_of, ends_of}
+use Rattle.table.proofs.TableLaws.{laid_of}
 use Rattle.table.proofs.LocateLaws.{truly}
 use borrow.Author.Rules.{rules}
 use Rattle.table_pieces.proofs.copy.Lts as lts

@@ -1,9 +1,5 @@
 use borrow.Author.Rules.{rules}
-use native.Mathlib.Omega.{arith}
-use lib.ListN.{length, get_or, drop}
-use Prim.Native.Nat.{ℕ, ◌≤◌, ◌<◌, ◌-◌, ◌+◌, ◌*◌}
-use mathlib.Core.Path.{◌≡◌, refl, sym, ap, ◌∙◌}
-use Rattle.table_pieces.specs.Run.{put_bytes}
+use Prim.Native.Nat.{◌-◌}
 use Rattle.table_pieces.proofs.CopyCode.{byte_none, part_room, part_on, end_room, end_is, end_long}
 use Rattle.table_pieces.proofs.copy_bytes.Lts as lts
 use Rattle.table_pieces.proofs.copy_bytes.Goals as goal

@@ -1,10 +1,6 @@
-use native.Mathlib.Omega.{arith}
-use lib.ListN.{length, get_or, drop}
-use Prim.Native.Nat.{ℕ, ◌≤◌, ◌<◌, ◌-◌, ◌+◌, ◌*◌}
-use mathlib.Core.Path.{◌≡◌, refl, sym, ap, ◌∙◌}
+use Prim.Native.Nat.{◌-◌}
 use Rattle.table_pieces.proofs.PiecesLaws.{walk_sum, walk_low_lem, run_up, run_less}
-use Rattle.table_pieces.proofs.CopyCode.{Copying, copy_begin, copy_done, run_in, run_room, copy_on}
-use borrow.Author.Rules.{rules}
+use Rattle.table_pieces.proofs.CopyCode.{copy_begin, copy_done, run_in, run_room, copy_on}
 use Rattle.table_pieces.proofs.copy_samples.Lts as lts
 use Rattle.table_pieces.proofs.copy_samples.Goals as goal
 

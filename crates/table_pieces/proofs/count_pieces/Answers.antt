@@ -1,9 +1,5 @@
-use native.Mathlib.Omega.{arith}
-use lib.ListN.{length, get_or, drop}
-use Prim.Native.Nat.{ℕ, ◌≤◌, ◌<◌, ◌-◌, ◌+◌, ◌*◌}
-use mathlib.Core.Path.{◌≡◌, refl, sym, ap, ◌∙◌}
-use Rattle.table_pieces.proofs.PiecesLaws.{Counting, count_begin, walk_sum, run_less, count_on, count_done}
-use borrow.Author.Rules.{rules}
+use Prim.Native.Nat.{◌-◌}
+use Rattle.table_pieces.proofs.PiecesLaws.{count_begin, walk_sum, run_less, count_on, count_done}
 use Rattle.table_pieces.proofs.count_pieces.Lts as lts
 use Rattle.table_pieces.proofs.count_pieces.Goals as goal
 

@@ -1,9 +1,5 @@
-use native.Mathlib.Omega.{arith}
-use lib.ListN.{length, get_or, drop}
-use Prim.Native.Nat.{ℕ, ◌≤◌, ◌<◌, ◌-◌, ◌+◌, ◌*◌}
-use mathlib.Core.Path.{◌≡◌, refl, sym, ap, ◌∙◌}
+use Prim.Native.Nat.{◌-◌}
 use Rattle.table_pieces.proofs.PiecesLaws.{in_low, in_up, in_high}
-use borrow.Author.Rules.{rules}
 use Rattle.table_pieces.proofs.is_inside.Lts as lts
 use Rattle.table_pieces.proofs.is_inside.Goals as goal
 

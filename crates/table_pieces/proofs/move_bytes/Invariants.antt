@@ -1,10 +1,6 @@
-use borrow.Author.Rules.{rules}
-use native.Mathlib.Omega.{arith}
-use lib.ListN.{length, get_or, drop}
-use Prim.Native.Nat.{ℕ, ◌≤◌, ◌<◌, ◌-◌, ◌+◌, ◌*◌}
-use mathlib.Core.Path.{◌≡◌, refl, sym, ap, ◌∙◌}
+use Prim.Native.Nat.{◌≤◌, ◌-◌}
+use mathlib.Core.Path.{◌≡◌}
 use Rattle.table_pieces.specs.Run.{put_bytes}
-use Rattle.table_pieces.proofs.CopyCode.{byte_none, byte_on, byte_long, byte_in, byte_all}
 use Rattle.table_pieces.proofs.move_bytes.Lts as lts
 use Rattle.table_pieces.proofs.move_bytes.Given as goal
 

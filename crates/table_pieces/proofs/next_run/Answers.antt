@@ -1,13 +1,5 @@
-use native.Mathlib.Omega.{arith}
-use lib.ListN.{length, get_or, drop}
-use Prim.Native.Nat.{ℕ, ◌≤◌, ◌<◌, ◌-◌, ◌+◌, ◌*◌}
-use mathlib.Core.Path.{◌≡◌, refl, sym, ap, ◌∙◌}
-use Rattle.table.specs.Rows.{capture_at, rest}
-use Rattle.table.specs.Samples.{header_sum}
-use Rattle.table_pieces.specs.Run.{run_from}
-use Rattle.table_pieces.proofs.Walk.{Finding, find_begin, find_none, find_past, find_break, find_on, find_fits}
-use borrow.Author.Rules.{rules}
-use Rattle.table.specs.Table.{own_entries}
+use Prim.Native.Nat.{◌-◌}
+use Rattle.table_pieces.proofs.Walk.{find_begin, find_none, find_past, find_break, find_on, find_fits}
 use Rattle.table_pieces.proofs.next_run.Lts as lts
 use Rattle.table_pieces.proofs.next_run.Goals as goal
 

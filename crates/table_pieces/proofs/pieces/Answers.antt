@@ -1,11 +1,7 @@
-use native.Mathlib.Omega.{arith}
-use lib.ListN.{length, get_or, drop}
-use Prim.Native.Nat.{ℕ, ◌≤◌, ◌<◌, ◌-◌, ◌+◌, ◌*◌}
-use mathlib.Core.Path.{◌≡◌, refl, sym, ap, ◌∙◌}
+use Prim.Native.Nat.{◌-◌}
 use Rattle.table_pieces.proofs.PiecesLaws.{half_room, ans_18, out_18, ans_19, out_19, ans_20, out_20, ans_0, out_0}
-use Rattle.table.proofs.TableLaws.{laid_of, ends_of}
+use Rattle.table.proofs.TableLaws.{laid_of}
 use Rattle.table.proofs.LocateLaws.{truly}
-use borrow.Author.Rules.{rules}
 use Rattle.table_pieces.proofs.pieces.Lts as lts
 use Rattle.table_pieces.proofs.pieces.Goals as goal
 

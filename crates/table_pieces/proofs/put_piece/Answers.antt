@@ -1,10 +1,7 @@
 use native.Mathlib.Omega.{arith}
-use lib.ListN.{length, get_or, drop}
-use Prim.Native.Nat.{ℕ, ◌≤◌, ◌<◌, ◌-◌, ◌+◌, ◌*◌}
-use mathlib.Core.Path.{◌≡◌, refl, sym, ap, ◌∙◌}
+use Prim.Native.Nat.{◌-◌}
 use lib.ListN.{length-set}
 use Rattle.table_pieces.proofs.PiecesLaws.{put_pair}
-use borrow.Author.Rules.{rules}
 use Rattle.table_pieces.proofs.put_piece.Lts as lts
 use Rattle.table_pieces.proofs.put_piece.Goals as goal
 

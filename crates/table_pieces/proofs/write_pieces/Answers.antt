@@ -1,9 +1,5 @@
-use native.Mathlib.Omega.{arith}
-use lib.ListN.{length, get_or, drop}
-use Prim.Native.Nat.{ℕ, ◌≤◌, ◌<◌, ◌-◌, ◌+◌, ◌*◌}
-use mathlib.Core.Path.{◌≡◌, refl, sym, ap, ◌∙◌}
-use Rattle.table_pieces.proofs.PiecesLaws.{Writing, write_begin, walk_sum, walk_low_lem, run_up, run_first, run_len, run_less, write_room, write_c, write_on, write_done}
-use borrow.Author.Rules.{rules}
+use Prim.Native.Nat.{◌-◌}
+use Rattle.table_pieces.proofs.PiecesLaws.{write_begin, walk_sum, walk_low_lem, run_up, run_first, run_len, run_less, write_room, write_c, write_on, write_done}
 use Rattle.table_pieces.proofs.write_pieces.Lts as lts
 use Rattle.table_pieces.proofs.write_pieces.Goals as goal
 

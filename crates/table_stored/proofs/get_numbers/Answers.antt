@@ -1,9 +1,8 @@
-use borrow.Author.Rules.{rules}
 use Prim.Native.Nat.{◌-◌}
 use mathlib.Core.Path.{sym}
 use Rattle.little_endian.specs.LittleEndian.{numbers_of}
 use Rattle.little_endian.proofs.NumberLaws.{numbers_length}
-use Rattle.output.proofs.Writing.{Copied, copy_begin, copy_inside, copy_on, copy_long, copy_end, put_none}
+use Rattle.output.proofs.Writing.{copy_begin, copy_inside, copy_on, copy_long, copy_end, put_none}
 use Rattle.table_stored.proofs.get_numbers.Goals as goal
 
 pub returns-then-n-out : goal.returns-then-n-out

@@ -1,7 +1,6 @@
 use Rattle.table_stored.proofs.CodeLaws.{opens_not, opens_version, opens_short, opens_last}
 use native.Mathlib.Omega.{arith}
 use Prim.Native.Nat.{◌-◌}
-use borrow.Author.Rules.{rules}
 use Rattle.table_stored.proofs.is_opening.Goals as goal
 
 pub returns-then-file-lt-OPENING : goal.returns-then-file-lt-OPENING

@@ -1,6 +1,5 @@
 use Rattle.table_stored.proofs.LoadLaws.{length_good, loaded_21, loaded_short, loaded_22, loaded_no, loaded_all}
 use Prim.Native.Nat.{◌-◌}
-use borrow.Author.Rules.{rules}
 use Rattle.table_stored.proofs.load.Goals as goal
 
 pub returns-then-file-lt-HEAD : goal.returns-then-file-lt-HEAD

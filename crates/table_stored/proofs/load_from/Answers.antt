@@ -2,7 +2,6 @@ use Rattle.table_stored.proofs.LoadLaws.{file_length, file_table, rows_same}
 use native.Mathlib.Omega.{arith}
 use Prim.Native.Nat.{◌-◌}
 use mathlib.Core.Path.{refl}
-use borrow.Author.Rules.{rules}
 use Rattle.table_stored.proofs.load_from.Goals as goal
 
 pub overflow_mul-from : goal.overflow_mul-from

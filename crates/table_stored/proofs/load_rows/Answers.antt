@@ -4,7 +4,6 @@ use Rattle.table.specs.Rows.{capture_width, annotation_width, table}
 use native.Mathlib.Omega.{arith}
 use Prim.Native.Nat.{◌-◌}
 use mathlib.Core.Path.{refl}
-use borrow.Author.Rules.{rules}
 use Rattle.table_stored.proofs.load_rows.Goals as goal
 
 pub returns-then-t-capto : goal.returns-then-t-capto

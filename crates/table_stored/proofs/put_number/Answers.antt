@@ -2,7 +2,6 @@ use native.Mathlib.Omega.{arith}
 use Prim.Native.Nat.{◌-◌}
 use Rattle.table_stored.proofs.CodeLaws.{eight_stores}
 use lib.ListN.{length-set}
-use borrow.Author.Rules.{rules}
 use Rattle.table_stored.proofs.put_number.Goals as goal
 
 pub bounds-out-1 : goal.bounds-out-1

@@ -3,7 +3,6 @@ use Rattle.table_stored.proofs.FormLaws.{summary_length, front_bytes}
 use Rattle.output.proofs.Writing.{first_put, next_from, next_room, next_sum, writes_next, writes_end}
 use native.Mathlib.Omega.{arith}
 use Prim.Native.Nat.{◌-◌}
-use borrow.Author.Rules.{rules}
 use Rattle.table_stored.proofs.put_table.Goals as goal
 
 pub slice_bounds-put_summary-count : goal.slice_bounds-put_summary-count

@@ -1,6 +1,5 @@
 use Rattle.table_stored.proofs.StoreLaws.{store_18, store_20, store_counts, store_room, store_0}
 use Prim.Native.Nat.{◌-◌}
-use borrow.Author.Rules.{rules}
 use Rattle.table_stored.proofs.store.Goals as goal
 
 pub put_table-n-requires : goal.put_table-n-requires

@@ -1,6 +1,4 @@
-use Prim.Native.Nat.{◌-◌}
 use Rattle.table_stored.proofs.CodeLaws.{summary_is}
-use borrow.Author.Rules.{rules}
 use Rattle.table_stored.proofs.summary_of.Goals as goal
 
 pub returns : goal.returns

@@ -1,14 +1,10 @@
-use borrow.Author.Rules.{rules}
 use lib.ListN.{length}
 use Prim.Native.Nat.{◌-◌}
-use mathlib.Core.Path.{◌≡◌, refl, ap}
-use Rattle.output.proofs.RowLines.{count_end, line_over, line_on}
+use mathlib.Core.Path.{◌≡◌}
 use Rattle.table.specs.Rows.{annotation_at, rest, flat}
-use Rattle.writer.specs.TextParts.{comma_before, item}
+use Rattle.writer.specs.TextParts.{item}
 use Rattle.writer.specs.Metadata.{annotation_text}
 use Rattle.output.specs.Left.{left_after}
-use mathlib.Core.List.{◌++◌}
-use Rattle.table.specs.declared.Annotation.{Annotation}
 use Rattle.writer.proofs.annotations_left.Given as goal
 
 abbrev pub invariant-loop-k : goal.invariant-loop-k

@@ -1,5 +1,4 @@
 use Rattle.writer.proofs.AnswerLaws.{number_bad, number_to}
-use borrow.Author.Rules.{rules}
 use Rattle.writer.proofs.is_number.Goals as goal
 
 pub returns-in_default : goal.returns-in_default

@@ -1,5 +1,4 @@
 use Rattle.writer.proofs.AnswerLaws.{writable_rate, writable_labels, writable_table}
-use borrow.Author.Rules.{rules}
 use Rattle.writer.proofs.is_writable.Goals as goal
 
 pub returns-then-labels_ok : goal.returns-then-labels_ok

@@ -1,5 +1,4 @@
 use Rattle.writer.proofs.AnswerLaws.{rate_absent, rate_past, rate_long, rate_judged}
-use borrow.Author.Rules.{rules}
 use Rattle.writer.proofs.rate_ok.Goals as goal
 
 pub returns-then-is_absent : goal.returns-then-is_absent

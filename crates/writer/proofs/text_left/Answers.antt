@@ -1,5 +1,4 @@
 use Rattle.writer.proofs.AnswerLaws.{left_words, left_head, left_captures, left_all}
-use borrow.Author.Rules.{rules}
 use Rattle.writer.proofs.text_left.Goals as goal
 
 pub returns-then-room-lt32 : goal.returns-then-room-lt32

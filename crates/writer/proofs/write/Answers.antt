@@ -1,5 +1,4 @@
 use Rattle.writer.proofs.AnswerLaws.{answer_unwritable, memory_unwritable, answer_over, memory_over, room_of, answer_written, memory_written}
-use borrow.Author.Rules.{rules}
 use Rattle.writer.proofs.write.Goals as goal
 
 pub returns-in_default : goal.returns-in_default

@@ -1,13 +1,12 @@
-use borrow.Author.Rules.{rules}
 use native.Mathlib.Omega.{arith}
 use Prim.Native.Nat.{◌-◌}
 use mathlib.Core.Path.{ap}
-use Rattle.output.proofs.Writing.{Writes, writes_none, writes_end, writes_long, next_from, next_room, next_sum, writes_next, whole_part}
+use Rattle.output.proofs.Writing.{writes_none, writes_end, writes_long, next_from, next_room, next_sum, writes_next, whole_part}
 use Rattle.output.proofs.RowLines.{write_more, write_none}
-use Rattle.table.specs.Rows.{annotation_at, rest, flat}
+use Rattle.table.specs.Rows.{annotation_at}
 use Rattle.writer.specs.TextParts.{comma_before, item}
 use Rattle.writer.specs.Metadata.{annotation_text}
-use mathlib.Core.List.{[], ◌∷◌, ◌++◌}
+use mathlib.Core.List.{◌++◌}
 use Rattle.table.specs.declared.Annotation.{Annotation}
 use Rattle.writer.proofs.write_annotations.Goals as goal
 

@@ -1,14 +1,9 @@
-use borrow.Author.Rules.{rules}
-use native.Mathlib.Omega.{arith}
 use Prim.Native.Nat.{◌-◌}
-use mathlib.Core.Path.{ap}
-use Rattle.output.proofs.Writing.{Writes, writes_none, writes_end, writes_long, next_from, next_room, next_sum, writes_next, whole_part}
-use Rattle.output.proofs.RowLines.{write_more, write_none}
+use Rattle.output.proofs.Writing.{Writes}
 use Rattle.table.specs.Rows.{capture_at, rest, flat}
-use Rattle.writer.specs.TextParts.{comma_before, item}
+use Rattle.writer.specs.TextParts.{item}
 use Rattle.writer.specs.Metadata.{capture_text}
-use mathlib.Core.List.{[], ◌∷◌, ◌++◌}
-use Rattle.table.specs.declared.Capture.{Capture}
+use mathlib.Core.List.{◌∷◌}
 use Rattle.writer.proofs.write_captures.Given as goal
 
 abbrev pub invariant-loop-k : goal.invariant-loop-k

@@ -1,7 +1,6 @@
 use native.Mathlib.Omega.{arith}
 use Rattle.output.proofs.Writing.{first_room, next_from, next_put, next_room, next_sum, put_sum, writes_end, writes_first, writes_long, writes_next}
 use Rattle.writer.proofs.TextLaws.{metadata_parts}
-use borrow.Author.Rules.{rules}
 use Rattle.writer.proofs.write_text.Goals as goal
 
 pub put_head-a-requires : goal.put_head-a-requires

@@ -1,11 +1,7 @@
-use native.Mathlib.Omega.{arith}
-use lib.ListN.{length, get_or, drop}
-use Prim.Native.Nat.{ℕ, ◌≤◌, ◌<◌, ◌-◌, ◌+◌, ◌*◌}
-use mathlib.Core.Path.{◌≡◌, refl, sym, ap, ◌∙◌}
-use native.Mathlib.Omega.{arith}
-use mathlib.Core.Path.{◌≡◌, refl, sym, ◌∙◌}
+use Prim.Native.Nat.{◌-◌}
+use mathlib.Core.Path.{sym, ◌∙◌}
+use mathlib.Core.Path.{sym, ◌∙◌}
 use Rattle.json_judge.proofs.SeenLaws.{fresh_known, fresh_second, fresh_first}
-use borrow.Author.Rules.{rules}
 use Rattle.json_judge.proofs.seen.fresh_key.Lts as lts
 use Rattle.json_judge.proofs.seen.fresh_key.Goals as goal
 

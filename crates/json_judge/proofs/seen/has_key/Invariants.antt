@@ -1,9 +1,6 @@
-use borrow.Author.Rules.{rules}
-use native.Mathlib.Omega.{arith}
 use lib.ListN.{length, drop}
 use Prim.Native.Nat.{◌-◌}
-use mathlib.Core.Path.{◌≡◌, refl, ◌∙◌}
-use Rattle.json_judge.proofs.SeenLaws.{key_on, key_end}
+use mathlib.Core.Path.{◌≡◌}
 use Rattle.json_judge.specs.Stack.{has_key}
 use mathlib.Core.Bool.{◌||◌}
 use Rattle.json_judge.proofs.seen.has_key.Given as goal

@@ -1,15 +1,9 @@
-use borrow.Author.Rules.{rules}
 use native.Mathlib.Omega.{arith}
-use lib.ListN.{length, get_or, drop}
-use Prim.Native.Nat.{ℕ, ◌≤◌, ◌<◌, ◌-◌, ◌+◌, ◌*◌}
-use mathlib.Core.Path.{◌≡◌, refl, sym, ap, ◌∙◌}
-use borrow.Author.Rules.{rules}
+use Prim.Native.Nat.{◌-◌}
+use mathlib.Core.Path.{refl, sym, ◌∙◌}
 use native.Mathlib.Omega.{arith}
-use mathlib.Core.Path.{◌≡◌, refl, sym, ◌∙◌}
-use Prim.Native.Nat.{◌≤◌}
+use mathlib.Core.Path.{refl, sym, ◌∙◌}
 use Rattle.json_strings.specs.Decode.{decoded_from}
-use Rattle.json_judge.specs.MemberNames.{has_name}
-use Rattle.json_judge.specs.Stack.{names_on}
 use Rattle.json_judge.proofs.SeenLaws.{known_found, known_on, known_none, key_at}
 use Rattle.json_judge.proofs.seen.is_among.Lts as lts
 use Rattle.json_judge.proofs.seen.is_among.Goals as goal

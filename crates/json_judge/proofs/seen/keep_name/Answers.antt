@@ -1,11 +1,7 @@
 use native.Mathlib.Omega.{arith}
-use lib.ListN.{length, get_or, drop}
-use Prim.Native.Nat.{ℕ, ◌≤◌, ◌<◌, ◌-◌, ◌+◌, ◌*◌}
-use mathlib.Core.Path.{◌≡◌, refl, sym, ap, ◌∙◌}
+use Prim.Native.Nat.{◌-◌}
 use native.Mathlib.Omega.{arith}
-use mathlib.Core.Path.{◌≡◌, refl, sym, ◌∙◌}
 use Rattle.json_judge.proofs.SeenLaws.{name_over, name_known, name_new}
-use borrow.Author.Rules.{rules}
 use Rattle.json_judge.proofs.seen.keep_name.Lts as lts
 use Rattle.json_judge.proofs.seen.keep_name.Goals as goal
 

@@ -1,10 +1,7 @@
-use native.Mathlib.Omega.{arith}
-use lib.ListN.{length, get_or, drop}
-use Prim.Native.Nat.{ℕ, ◌≤◌, ◌<◌, ◌-◌, ◌+◌, ◌*◌}
-use mathlib.Core.Path.{◌≡◌, refl, sym, ap, ◌∙◌}
-use mathlib.Core.Path.{◌≡◌, refl, sym, ◌∙◌}
+use Prim.Native.Nat.{◌-◌}
+use mathlib.Core.Path.{sym, ◌∙◌}
+use mathlib.Core.Path.{sym, ◌∙◌}
 use Rattle.json_judge.proofs.SeenLaws.{keys_apart}
-use borrow.Author.Rules.{rules}
 use Rattle.json_judge.proofs.seen.same_name.Lts as lts
 use Rattle.json_judge.proofs.seen.same_name.Goals as goal
 

@@ -1,13 +1,9 @@
 -- Each goal is a fact of one call of the three.
-use borrow.Author.Rules.{rules}
 use native.Mathlib.Omega.{arith}
-use lib.ListN.{length}
-use Prim.Native.Nat.{ℕ, ◌<◌, ◌-◌, ◌+◌}
-use mathlib.Core.Path.{◌∙◌}
-use Rattle.json_judge.proofs.PassLaws.{ArrayPass, array_start, array_stop, array_bad, array_close, array_less, array_again, array_zero, array_empty, array_told, ObjectPass, object_start, object_nameless, object_stop, object_bad, object_close, object_less, object_again, object_zero, object_empty, object_told, name_far, name_keyed, kept_then, kept_less, kept_most, kept_few, kept_places, kept_keys, kept_same, passed}
+use Prim.Native.Nat.{◌-◌}
+use Rattle.json_judge.proofs.PassLaws.{array_start, array_stop, array_bad, array_close, array_less, array_again, array_zero, array_empty, array_told, object_start, object_nameless, object_stop, object_bad, object_close, object_less, object_again, object_zero, object_empty, object_told, name_far, kept_then, kept_less, kept_most, kept_few, kept_places, kept_keys, kept_same, passed}
 use Rattle.json_judge.proofs.ValueLaws.{value_array, value_object, value_leaf}
 use Rattle.json_blocks.proofs.ByteLaws.{inside}
-use Prim.Native.Nat.{ℕ, ◌<◌}
 use Rattle.json_judge.proofs.values.+array_object_value.Goals as goal
 
 pub array-returns-then-depth-eq0 : goal.array-returns-then-depth-eq0

@@ -1,6 +1,5 @@
 use native.Mathlib.Omega.{arith}
 use Rattle.json_judge.proofs.JudgeLaws.{judge_none, judge_more, judge_bad, judge_good}
-use borrow.Author.Rules.{rules}
 use Rattle.json_judge.proofs.values.judge_with.Goals as goal
 
 pub value-r-requires : goal.value-r-requires

@@ -2,7 +2,6 @@ use native.Mathlib.Omega.{arith}
 use mathlib.Core.Path.{sym, ◌∙◌}
 use Rattle.json_blocks.proofs.ByteLaws.{inside}
 use Rattle.json_judge.proofs.ValueLaws.{leaf_string, leaf_true, leaf_false, leaf_null, leaf_number}
-use borrow.Author.Rules.{rules}
 use Rattle.json_judge.proofs.values.leaf.Goals as goal
 
 pub overflow_add-at : goal.overflow_add-at

@@ -1,7 +1,6 @@
 use native.Mathlib.Omega.{arith}
 use Rattle.json_judge.proofs.ValueLaws.{key_nameless, key_string, key_colon, key_value}
 use Rattle.json_blocks.proofs.ByteLaws.{inside}
-use borrow.Author.Rules.{rules}
 use Rattle.json_judge.proofs.values.name_key.Goals as goal
 
 pub overflow_add-at : goal.overflow_add-at

@@ -2,7 +2,6 @@ use mathlib.Core.Path.{sym, ap}
 use mathlib.Core.Bool.{false}
 use Rattle.json_judge.specs.Pass.{scan_of}
 use Rattle.json_blocks.specs.declared.Read.{Read}
-use borrow.Author.Rules.{rules}
 use Rattle.json_judge.proofs.values.plain.Goals as goal
 
 pub returns-in-To : goal.returns-in-To

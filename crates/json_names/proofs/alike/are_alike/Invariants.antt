@@ -1,13 +1,7 @@
-use borrow.Author.Rules.{rules}
-use native.Mathlib.Omega.{arith}
 use Prim.Native.Nat.{◌≤◌, ◌-◌, ◌+◌}
-use mathlib.Core.Path.{◌≡◌, ap, ◌∙◌}
+use mathlib.Core.Path.{◌≡◌}
 use mathlib.Core.Bool.{◌&&◌}
-use lib.Dec.{eqb}
 use Rattle.json_names.specs.Plain.{alike}
-use Rattle.json_names.proofs.PlainLaws.{alike_start, alike_on, alike_end}
-use mathlib.Core.Bool.{Bool}
-use Rattle.json_blocks.specs.TextBytes.{byte}
 use Rattle.json_names.proofs.alike.are_alike.Given as goal
 
 abbrev pub invariant-loop-k : goal.invariant-loop-k

@@ -1,10 +1,7 @@
-use borrow.Author.Rules.{rules}
 use native.Mathlib.Omega.{arith}
 use lib.ListN.{length}
 use Prim.Native.Nat.{◌-◌, ◌+◌}
-use mathlib.Core.Path.{◌≡◌, refl, sym, ◌∙◌}
-use Rattle.json_strings.specs.Decode.{decoded_from}
-use Rattle.json_names.specs.Same.{same}
+use mathlib.Core.Path.{refl, sym, ◌∙◌}
 use Rattle.json_names.proofs.PlainLaws.{all_alike}
 use borrow.Author.Tests.{leb-true}
 use Rattle.json_names.proofs.alike.skip_alike.Goals as goal

@@ -1,12 +1,8 @@
-use borrow.Author.Rules.{rules}
-use native.Mathlib.Omega.{arith}
 use lib.ListN.{length}
-use Prim.Native.Nat.{◌-◌, ◌+◌}
-use mathlib.Core.Path.{◌≡◌, refl, sym, ◌∙◌}
+use Prim.Native.Nat.{◌-◌}
+use mathlib.Core.Path.{◌≡◌}
 use Rattle.json_strings.specs.Decode.{decoded_from}
 use Rattle.json_names.specs.Same.{same}
-use Rattle.json_names.proofs.PlainLaws.{all_alike}
-use borrow.Author.Tests.{leb-true}
 use Rattle.json_names.proofs.alike.skip_alike.Given as goal
 
 abbrev pub invariant-loop-i : goal.invariant-loop-i

@@ -2,7 +2,6 @@ use native.Mathlib.Omega.{arith}
 use mathlib.Core.Path.{sym, ◌∙◌}
 use Rattle.json_names.proofs.PlainLaws.{run_quote, run_bad, run_to}
 use Rattle.json_blocks.proofs.ByteLaws.{inside}
-use borrow.Author.Rules.{rules}
 use Rattle.json_names.proofs.plain.keyed_string.Goals as goal
 
 pub overflow_add-result : goal.overflow_add-result

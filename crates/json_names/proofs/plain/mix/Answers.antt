@@ -1,6 +1,5 @@
 use native.Mathlib.Omega.{arith}
 use Rattle.json_names.proofs.SameLaws.{key_fits}
-use borrow.Author.Rules.{rules}
 use Rattle.json_names.proofs.plain.mix.Goals as goal
 
 pub overflow_mul-result : goal.overflow_mul-result

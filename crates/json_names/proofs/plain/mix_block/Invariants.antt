@@ -1,14 +1,10 @@
-use borrow.Author.Rules.{rules}
-use native.Mathlib.Omega.{arith}
 use lib.ListN.{drop}
 use Prim.Native.Nat.{◌≤◌, ◌<◌, ◌-◌, ◌+◌}
-use mathlib.Core.Path.{◌≡◌, ap, ◌∙◌}
-use mathlib.Core.Bool.{Bool, ◌&&◌}
+use mathlib.Core.Path.{◌≡◌}
+use mathlib.Core.Bool.{◌&&◌}
 use lib.ListN.{take}
 use Rattle.json_blocks.specs.Blocks.{plain_byte, all_at}
-use Rattle.json_blocks.proofs.BlockLaws.{all_start, all_on, all_end}
 use Rattle.json_names.specs.Keys.{key_from}
-use Rattle.json_names.proofs.PlainLaws.{block_start, block_on, block_end}
 use Rattle.json_names.proofs.plain.mix_block.Given as goal
 
 abbrev pub invariant-loop-k : goal.invariant-loop-k

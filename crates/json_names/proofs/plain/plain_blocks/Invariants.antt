@@ -1,11 +1,6 @@
-use borrow.Author.Rules.{rules}
-use native.Mathlib.Omega.{arith}
 use lib.ListN.{length}
-use Prim.Native.Nat.{◌-◌, ◌+◌}
-use mathlib.Core.Path.{refl, sym, ◌∙◌}
-use borrow.Author.Tests.{leb-true}
+use Prim.Native.Nat.{◌-◌}
 use Rattle.json_names.specs.Plain.{PlainRun}
-use Rattle.json_names.proofs.PlainLaws.{run_block}
 use Rattle.json_names.proofs.plain.plain_blocks.Given as goal
 
 abbrev pub invariant-loop-x : goal.invariant-loop-x

@@ -1,9 +1,6 @@
-use borrow.Author.Rules.{rules}
 use native.Mathlib.Omega.{arith}
-use lib.ListN.{length}
 use Prim.Native.Nat.{◌-◌}
 use mathlib.Core.Path.{sym, ◌∙◌}
-use Rattle.json_names.specs.Plain.{PlainRun}
 use Rattle.json_blocks.proofs.BlockLaws.{plain_inside}
 use Rattle.json_names.proofs.PlainLaws.{run_more}
 use Rattle.json_names.proofs.plain.plain_run.Goals as goal

@@ -1,5 +1,4 @@
 use borrow.Author.Tests.{lt-leb, le-leb}
-use borrow.Author.Rules.{rules}
 use Rattle.json_stream.proofs.reach.colon_consistent.Lts as lts
 use Rattle.json_stream.proofs.reach.colon_consistent.Goals as goal
 

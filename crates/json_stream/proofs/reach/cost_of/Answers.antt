@@ -2,7 +2,6 @@ use native.Mathlib.Omega.{arith}
 use mathlib.Core.Path.{refl}
 use Rattle.json_automaton.specs.Reachable.{cost, costs}
 use Rattle.json_stream.proofs.Laws.{cost_none, cost_most}
-use borrow.Author.Rules.{rules}
 use Rattle.json_stream.proofs.reach.cost_of.Lts as lts
 use Rattle.json_stream.proofs.reach.cost_of.Goals as goal
 

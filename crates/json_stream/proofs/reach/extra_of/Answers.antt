@@ -1,7 +1,6 @@
 use native.Mathlib.Omega.{arith}
 use mathlib.Core.Path.{sym, ◌∙◌}
 use Rattle.json_automaton.specs.Reachable.{extra, in_object}
-use borrow.Author.Rules.{rules}
 use Rattle.json_stream.proofs.reach.extra_of.Lts as lts
 use Rattle.json_stream.proofs.reach.extra_of.Goals as goal
 

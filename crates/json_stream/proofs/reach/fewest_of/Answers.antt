@@ -1,7 +1,6 @@
 use native.Mathlib.Omega.{arith}
 use Rattle.json_automaton.specs.Reachable.{fewest}
 use Rattle.json_stream.proofs.Laws.{fewest_none}
-use borrow.Author.Rules.{rules}
 use Rattle.json_stream.proofs.reach.fewest_of.Lts as lts
 use Rattle.json_stream.proofs.reach.fewest_of.Goals as goal
 

@@ -1,6 +1,5 @@
 use borrow.Author.Tests.{lt-leb, le-leb}
 use Rattle.json_automaton.specs.Reachable.{in_object}
-use borrow.Author.Rules.{rules}
 use Rattle.json_stream.proofs.reach.in_object.Lts as lts
 use Rattle.json_stream.proofs.reach.in_object.Goals as goal
 

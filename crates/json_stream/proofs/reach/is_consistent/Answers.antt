@@ -2,7 +2,6 @@ use native.Mathlib.Omega.{arith}
 use borrow.Author.Tests.{lt-ltb, le-ltb, lt-leb, le-leb}
 use Rattle.json_automaton.specs.Reachable.{consistent}
 use Rattle.json_stream.proofs.Laws.{consistent_none}
-use borrow.Author.Rules.{rules}
 use Rattle.json_stream.proofs.reach.is_consistent.Lts as lts
 use Rattle.json_stream.proofs.reach.is_consistent.Goals as goal
 

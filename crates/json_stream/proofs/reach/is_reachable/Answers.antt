@@ -1,7 +1,6 @@
 use mathlib.Core.Path.{sym, ◌∙◌}
 use borrow.Author.Tests.{eq-eqb, ne_eqb, lt-leb, le-leb}
 use Rattle.json_automaton.specs.Reachable.{is_reachable}
-use borrow.Author.Rules.{rules}
 use Rattle.json_stream.proofs.reach.is_reachable.Lts as lts
 use Rattle.json_stream.proofs.reach.is_reachable.Goals as goal
 

@@ -1,7 +1,5 @@
 use native.Mathlib.Omega.{arith}
-use Prim.Native.Nat.{◌≤◌, ◌-◌, ◌+◌, ◌*◌}
-use mathlib.Core.Path.{◌≡◌}
-use Rattle.json_automaton.specs.Reachable.{opened_in}
+use Prim.Native.Nat.{◌-◌}
 use Rattle.json_stream.proofs.Laws.{opened_stop, opened_end, opened_on}
 use Rattle.json_stream.proofs.reach.opened_of.Lts as lts
 use Rattle.json_stream.proofs.reach.opened_of.Goals as goal

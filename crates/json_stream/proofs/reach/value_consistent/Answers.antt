@@ -1,5 +1,4 @@
 use borrow.Author.Tests.{eq-eqb, ne_eqb}
-use borrow.Author.Rules.{rules}
 use Rattle.json_stream.proofs.reach.value_consistent.Lts as lts
 use Rattle.json_stream.proofs.reach.value_consistent.Goals as goal
 

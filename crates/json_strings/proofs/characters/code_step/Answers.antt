@@ -1,10 +1,6 @@
-use native.Mathlib.Omega.{arith}
-use lib.ListN.{length, get_or, drop}
-use Prim.Native.Nat.{ℕ, ◌≤◌, ◌<◌, ◌-◌, ◌+◌, ◌*◌}
-use mathlib.Core.Path.{◌≡◌, refl, sym, ap, ◌∙◌}
+use Prim.Native.Nat.{◌-◌}
 use Rattle.json_strings.specs.Utf8.{utf8}
 use Rattle.json_strings.proofs.StepLaws.{step_is}
-use borrow.Author.Rules.{rules}
 use Rattle.json_strings.proofs.characters.code_step.Lts as lts
 use Rattle.json_strings.proofs.characters.code_step.Goals as goal
 

@@ -1,17 +1,14 @@
-use native.Mathlib.Omega.{arith}
-use lib.ListN.{length, get_or, drop}
-use Prim.Native.Nat.{ℕ, ◌≤◌, ◌<◌, ◌-◌, ◌+◌, ◌*◌}
-use mathlib.Core.Path.{◌≡◌, refl, sym, ap, ◌∙◌}
-use mathlib.Core.Path.{◌≡◌, refl, sym, ◌∙◌}
+use Prim.Native.Nat.{ℕ, ◌-◌, ◌+◌}
+use mathlib.Core.Path.{sym, ap, ◌∙◌}
+use mathlib.Core.Path.{sym, ◌∙◌}
 use Rattle.json_strings.specs.declared.Unit.TheVariants.{Byte, Escape}
 use Rattle.json_strings.proofs.StepLaws.{step_unit}
-use mathlib.Core.List.{[], ◌∷◌}
+use mathlib.Core.List.{◌∷◌}
 use Rattle.json_strings.specs.Characters.{step_of}
 use mathlib.Core.Path.{ap}
 use Prim.Native.Nat.{ℕ, ◌+◌}
 use Rattle.json_strings.proofs.DecodeLaws.{unit_escape}
 use Rattle.json_strings.proofs.LengthLaws.{unit_point}
-use borrow.Author.Rules.{rules}
 use Rattle.json_strings.proofs.characters.escaped_step.Lts as lts
 use Rattle.json_strings.proofs.characters.escaped_step.Goals as goal
 

@@ -1,13 +1,9 @@
-use native.Mathlib.Omega.{arith}
-use lib.ListN.{length, get_or, drop}
-use Prim.Native.Nat.{ℕ, ◌≤◌, ◌<◌, ◌-◌, ◌+◌, ◌*◌}
-use mathlib.Core.Path.{◌≡◌, refl, sym, ap, ◌∙◌}
-use native.Mathlib.Omega.{arith}
-use mathlib.Core.Path.{◌≡◌, refl, sym, ◌∙◌}
+use Prim.Native.Nat.{◌-◌}
+use mathlib.Core.Path.{◌∙◌}
+use mathlib.Core.Path.{◌∙◌}
 use Rattle.json_blocks.specs.declared.Read.TheVariants as R
 use Rattle.json_strings.proofs.DecodeLaws.{ends_quote, ends_over}
 use Rattle.json_strings.proofs.StepLaws.{step_end, step_raw_lem, raw_inside}
-use borrow.Author.Rules.{rules}
 use Rattle.json_strings.proofs.characters.next_character.Lts as lts
 use Rattle.json_strings.proofs.characters.next_character.Goals as goal
 

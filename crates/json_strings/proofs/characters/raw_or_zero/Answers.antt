@@ -1,10 +1,7 @@
-use native.Mathlib.Omega.{arith}
-use lib.ListN.{length, get_or, drop}
-use Prim.Native.Nat.{ℕ, ◌≤◌, ◌<◌, ◌-◌, ◌+◌, ◌*◌}
-use mathlib.Core.Path.{◌≡◌, refl, sym, ap, ◌∙◌}
-use mathlib.Core.Path.{◌≡◌, refl, sym, ◌∙◌}
+use Prim.Native.Nat.{◌-◌}
+use mathlib.Core.Path.{◌∙◌}
+use mathlib.Core.Path.{◌∙◌}
 use Rattle.json_strings.proofs.StepLaws.{part_byte, part_over}
-use borrow.Author.Rules.{rules}
 use Rattle.json_strings.proofs.characters.raw_or_zero.Lts as lts
 use Rattle.json_strings.proofs.characters.raw_or_zero.Goals as goal
 

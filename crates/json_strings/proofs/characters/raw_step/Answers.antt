@@ -1,12 +1,10 @@
 use native.Mathlib.Omega.{arith}
-use lib.ListN.{length, get_or, drop}
-use Prim.Native.Nat.{ℕ, ◌≤◌, ◌<◌, ◌-◌, ◌+◌, ◌*◌}
-use mathlib.Core.Path.{◌≡◌, refl, sym, ap, ◌∙◌}
+use lib.ListN.{drop}
+use Prim.Native.Nat.{◌-◌}
 use native.Mathlib.Omega.{arith}
 use lib.ListN.{take, drop}
 use Prim.Native.Nat.{◌-◌}
 use Rattle.json_strings.proofs.StepLaws.{step_is, part_long}
-use borrow.Author.Rules.{rules}
 use Rattle.json_strings.proofs.characters.raw_step.Lts as lts
 use Rattle.json_strings.proofs.characters.raw_step.Goals as goal
 

@@ -1,11 +1,8 @@
 use native.Mathlib.Omega.{arith}
-use lib.ListN.{length, get_or, drop}
-use Prim.Native.Nat.{ℕ, ◌≤◌, ◌<◌, ◌-◌, ◌+◌, ◌*◌}
-use mathlib.Core.Path.{◌≡◌, refl, sym, ap, ◌∙◌}
+use Prim.Native.Nat.{◌-◌}
 use native.Mathlib.Omega.{arith}
 use Rattle.json_strings.specs.Utf8.{utf8}
 use Rattle.json_strings.proofs.StepLaws.{byte_over}
-use borrow.Author.Rules.{rules}
 use Rattle.json_strings.proofs.characters.utf8_or_zero.Lts as lts
 use Rattle.json_strings.proofs.characters.utf8_or_zero.Goals as goal
 

@@ -3,7 +3,6 @@ use mathlib.Core.Path.{sym, ◌∙◌}
 use Rattle.json_blocks.proofs.ByteLaws.{good_inside}
 use Rattle.json_tokens.proofs.NumberLaws.{no_digit, digits_to, digits_bad}
 use Rattle.json_tokens.specs.Number.{digit}
-use borrow.Author.Rules.{rules}
 use Rattle.json_tokens.proofs.number.digits.Goals as goal
 
 pub overflow_add-at : goal.overflow_add-at

@@ -1,7 +1,6 @@
 use native.Mathlib.Omega.{arith}
 use Rattle.json_blocks.proofs.ByteLaws.{inside}
 use Rattle.json_tokens.proofs.NumberLaws.{fraction_some, fraction_none}
-use borrow.Author.Rules.{rules}
 use Rattle.json_tokens.proofs.number.fraction.Goals as goal
 
 pub overflow_add-at : goal.overflow_add-at

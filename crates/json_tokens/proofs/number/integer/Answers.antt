@@ -1,7 +1,6 @@
 use native.Mathlib.Omega.{arith}
 use Rattle.json_blocks.proofs.ByteLaws.{inside}
 use Rattle.json_tokens.proofs.NumberLaws.{integer_zero, integer_digits}
-use borrow.Author.Rules.{rules}
 use Rattle.json_tokens.proofs.number.integer.Goals as goal
 
 pub overflow_add-result : goal.overflow_add-result

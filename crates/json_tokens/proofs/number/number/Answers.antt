@@ -1,5 +1,4 @@
 use Rattle.json_tokens.proofs.NumberLaws.{number_1, number_2, number_3}
-use borrow.Author.Rules.{rules}
 use Rattle.json_tokens.proofs.number.number.Goals as goal
 
 pub returns-in_default : goal.returns-in_default

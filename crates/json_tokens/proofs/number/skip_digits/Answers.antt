@@ -1,9 +1,7 @@
-use borrow.Author.Rules.{rules}
 use native.Mathlib.Omega.{arith}
-use lib.ListN.{length}
 use Prim.Native.Nat.{◌-◌}
-use mathlib.Core.Path.{◌≡◌, refl, sym, ◌∙◌}
-use Rattle.json_tokens.specs.Number.{digit, skip_digits}
+use mathlib.Core.Path.{refl, sym, ◌∙◌}
+use Rattle.json_tokens.specs.Number.{digit}
 use Rattle.json_blocks.proofs.ByteLaws.{good_inside, skip_on, skip_out}
 use Rattle.json_tokens.proofs.NumberLaws.{no_digit}
 use Rattle.json_tokens.proofs.number.skip_digits.Goals as goal

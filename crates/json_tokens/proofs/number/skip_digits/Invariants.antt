@@ -1,11 +1,7 @@
-use borrow.Author.Rules.{rules}
-use native.Mathlib.Omega.{arith}
 use lib.ListN.{length}
 use Prim.Native.Nat.{◌-◌}
-use mathlib.Core.Path.{◌≡◌, refl, sym, ◌∙◌}
-use Rattle.json_tokens.specs.Number.{digit, skip_digits}
-use Rattle.json_blocks.proofs.ByteLaws.{good_inside, skip_on, skip_out}
-use Rattle.json_tokens.proofs.NumberLaws.{no_digit}
+use mathlib.Core.Path.{◌≡◌}
+use Rattle.json_tokens.specs.Number.{skip_digits}
 use Rattle.json_tokens.proofs.number.skip_digits.Given as goal
 
 abbrev pub invariant-loop-i : goal.invariant-loop-i

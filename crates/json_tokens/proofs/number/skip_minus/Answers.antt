@@ -1,7 +1,6 @@
 use native.Mathlib.Omega.{arith}
 use Rattle.json_blocks.proofs.ByteLaws.{inside}
 use Rattle.json_tokens.proofs.NumberLaws.{minus_one, minus_none}
-use borrow.Author.Rules.{rules}
 use Rattle.json_tokens.proofs.number.skip_minus.Goals as goal
 
 pub overflow_add-result : goal.overflow_add-result

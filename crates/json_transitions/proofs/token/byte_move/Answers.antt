@@ -1,6 +1,5 @@
 use mathlib.Core.Path.{sym, ◌∙◌}
 use Rattle.json_automaton.specs.Token.{byte_move}
-use borrow.Author.Rules.{rules}
 use Rattle.json_transitions.proofs.token.byte_move.Lts as lts
 use Rattle.json_transitions.proofs.token.byte_move.Goals as goal
 

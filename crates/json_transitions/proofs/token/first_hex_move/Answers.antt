@@ -1,6 +1,5 @@
 use borrow.Author.Tests.{eq-eqb, ne_eqb, lt-ltb, le-ltb}
 use Rattle.json_automaton.specs.Token.{first_hex_move}
-use borrow.Author.Rules.{rules}
 use Rattle.json_transitions.proofs.token.first_hex_move.Lts as lts
 use Rattle.json_transitions.proofs.token.first_hex_move.Goals as goal
 

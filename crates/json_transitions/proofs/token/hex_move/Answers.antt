@@ -1,6 +1,5 @@
 use borrow.Author.Tests.{lt-ltb, le-ltb}
 use Rattle.json_automaton.specs.Token.{hex_move}
-use borrow.Author.Rules.{rules}
 use Rattle.json_transitions.proofs.token.hex_move.Lts as lts
 use Rattle.json_transitions.proofs.token.hex_move.Goals as goal
 

@@ -1,6 +1,5 @@
 use mathlib.Core.Path.{sym, ◌∙◌}
 use Rattle.json_automaton.specs.Token.{token_move, token_moves}
-use borrow.Author.Rules.{rules}
 use Rattle.json_transitions.proofs.token.integer_move.Lts as lts
 use Rattle.json_transitions.proofs.token.integer_move.Goals as goal
 

@@ -1,6 +1,5 @@
 use mathlib.Core.Path.{sym, ◌∙◌}
 use Rattle.json_automaton.specs.Token.{low_move}
-use borrow.Author.Rules.{rules}
 use Rattle.json_transitions.proofs.token.low_move.Lts as lts
 use Rattle.json_transitions.proofs.token.low_move.Goals as goal
 

@@ -1,6 +1,5 @@
 use borrow.Author.Tests.{eq-eqb, ne_eqb}
 use Rattle.json_automaton.specs.Token.{minus_move}
-use borrow.Author.Rules.{rules}
 use Rattle.json_transitions.proofs.token.minus_move.Lts as lts
 use Rattle.json_transitions.proofs.token.minus_move.Goals as goal
 

@@ -1,6 +1,5 @@
 use borrow.Author.Tests.{eq-eqb, ne_eqb}
 use Rattle.json_automaton.specs.Token.{sign_move}
-use borrow.Author.Rules.{rules}
 use Rattle.json_transitions.proofs.token.sign_move.Lts as lts
 use Rattle.json_transitions.proofs.token.sign_move.Goals as goal
 

@@ -1,7 +1,6 @@
 use native.Mathlib.Omega.{arith}
 use Rattle.json_automaton.specs.Token.{token_move, token_moves}
 use Rattle.json_transitions.proofs.Laws.{token_none}
-use borrow.Author.Rules.{rules}
 use Rattle.json_transitions.proofs.token.token_move.Lts as lts
 use Rattle.json_transitions.proofs.token.token_move.Goals as goal
 

@@ -1,7 +1,6 @@
 use native.Mathlib.Omega.{arith}
 use Rattle.output.proofs.Writing.{writes_end, writes_long, byte_inside, byte_sum, writes_byte, first_room, writes_first, next_from, next_room, next_sum, writes_next}
 use Rattle.listing.proofs.LineLaws.{capture_parts}
-use borrow.Author.Rules.{rules}
 use Rattle.listing.proofs.lines.put_capture_line.Goals as goal
 
 pub put_two-a-requires : goal.put_two-a-requires

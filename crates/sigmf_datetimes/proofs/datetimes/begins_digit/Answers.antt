@@ -1,6 +1,5 @@
 use Rattle.json_strings.proofs.DecodeLaws.{streamed_next, streamed_end}
 use Rattle.sigmf_datetimes.proofs.DatetimeLaws.{starts_end, starts_is}
-use borrow.Author.Rules.{rules}
 use Rattle.sigmf_datetimes.proofs.datetimes.begins_digit.Goals as goal
 
 pub returns-in_default : goal.returns-in_default

@@ -1,7 +1,6 @@
 use native.Mathlib.Omega.{arith}
 use mathlib.Core.Path.{sym, ◌∙◌}
 use Rattle.sigmf_datetimes.proofs.DirectLaws.{clock_room, clock_hour, clock_minute, clock_second, clock_self}
-use borrow.Author.Rules.{rules}
 use Rattle.sigmf_datetimes.proofs.datetimes.clock.Goals as goal
 
 pub pair_at-requires : goal.pair_at-requires

@@ -1,7 +1,6 @@
 use native.Mathlib.Omega.{arith}
 use mathlib.Core.Path.{sym, ◌∙◌}
 use Rattle.sigmf_datetimes.proofs.DirectLaws.{pair_under, date_room, date_century, date_year, date_month, date_day, date_self}
-use borrow.Author.Rules.{rules}
 use Rattle.sigmf_datetimes.proofs.datetimes.date.Goals as goal
 
 pub pair_at-requires : goal.pair_at-requires

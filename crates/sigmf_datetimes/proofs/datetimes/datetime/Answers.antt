@@ -1,7 +1,6 @@
 use mathlib.Core.Path.{sym, ap, ◌∙◌}
 use Rattle.refusals.specs.Answer.{or_refused}
 use Rattle.sigmf_datetimes.proofs.DatetimeLaws.{datetime_1, datetime_2, datetime_3, datetime_4, datetime_5, datetime_6}
-use borrow.Author.Rules.{rules}
 use Rattle.sigmf_datetimes.proofs.datetimes.datetime.Goals as goal
 
 pub returns-in_default : goal.returns-in_default

@@ -1,5 +1,4 @@
 use Rattle.sigmf_datetimes.proofs.DatetimeLaws.{clock_1, clock_2, clock_3, clock_4}
-use borrow.Author.Rules.{rules}
 use Rattle.sigmf_datetimes.proofs.datetimes.decoded_clock.Goals as goal
 
 pub returns-in_default : goal.returns-in_default

@@ -1,6 +1,5 @@
 use native.Mathlib.Omega.{arith}
 use Rattle.sigmf_datetimes.proofs.DatetimeLaws.{date_1, date_2, date_3, date_4, date_5, pair_below, then_below}
-use borrow.Author.Rules.{rules}
 use Rattle.sigmf_datetimes.proofs.datetimes.decoded_date.Goals as goal
 
 pub returns-in_default : goal.returns-in_default

@@ -1,7 +1,6 @@
 use mathlib.Core.Path.{sym, ◌∙◌}
 use Rattle.json_strings.proofs.DecodeLaws.{streamed_next, streamed_end}
 use Rattle.sigmf_datetimes.proofs.DatetimeLaws.{fraction_end, fraction_bare, fraction_open, fraction_some, fraction_other, fraction_more, fraction_none}
-use borrow.Author.Rules.{rules}
 use Rattle.sigmf_datetimes.proofs.datetimes.fraction.Goals as goal
 
 pub returns-in_default : goal.returns-in_default

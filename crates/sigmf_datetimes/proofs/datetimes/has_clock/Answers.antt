@@ -4,7 +4,6 @@ use Prim.Native.Nat.{◌+◌}
 use mathlib.Core.Path.{sym, ◌∙◌}
 use borrow.Author.Tests.{leb-true}
 use Rattle.sigmf_datetimes.specs.DatetimeCode.{has_clock}
-use borrow.Author.Rules.{rules}
 use Rattle.sigmf_datetimes.proofs.datetimes.has_clock.Goals as goal
 
 pub has_pair_then-requires : goal.has_pair_then-requires

@@ -1,6 +1,5 @@
 use mathlib.Core.Path.{sym, ◌∙◌}
 use Rattle.sigmf_datetimes.specs.DatetimeCode.{has_pair}
-use borrow.Author.Rules.{rules}
 use Rattle.sigmf_datetimes.proofs.datetimes.has_pair.Goals as goal
 
 pub returns-then-is_within : goal.returns-then-is_within

@@ -1,6 +1,5 @@
 use mathlib.Core.Path.{sym, ◌∙◌}
 use Rattle.sigmf_datetimes.specs.DatetimeCode.{has_pair_then}
-use borrow.Author.Rules.{rules}
 use Rattle.sigmf_datetimes.proofs.datetimes.has_pair_then.Goals as goal
 
 pub returns-then-has_pair : goal.returns-then-has_pair

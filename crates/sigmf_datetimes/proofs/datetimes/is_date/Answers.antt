@@ -1,5 +1,4 @@
 use Rattle.sigmf_datetimes.proofs.DatetimeLaws.{date_none, date_is}
-use borrow.Author.Rules.{rules}
 use Rattle.sigmf_datetimes.proofs.datetimes.is_date.Goals as goal
 
 pub returns-then-d-lt1 : goal.returns-then-d-lt1

@@ -1,6 +1,5 @@
 use Rattle.json_strings.proofs.DecodeLaws.{streamed_next, streamed_end}
 use Rattle.sigmf_datetimes.proofs.DatetimeLaws.{empty_end, empty_not}
-use borrow.Author.Rules.{rules}
 use Rattle.sigmf_datetimes.proofs.datetimes.is_end.Goals as goal
 
 pub returns-in_default : goal.returns-in_default

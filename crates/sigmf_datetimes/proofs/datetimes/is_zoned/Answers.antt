@@ -1,10 +1,6 @@
-use borrow.Author.Rules.{rules}
-use lib.ListN.{length}
-use mathlib.Core.Path.{◌≡◌, refl, sym, ◌∙◌}
+use mathlib.Core.Path.{refl, sym, ◌∙◌}
 use Rattle.json_strings.proofs.DecodeLaws.{streamed_next, streamed_end, shorter}
 use Rattle.sigmf_datetimes.proofs.DatetimeLaws.{zoned_end, zoned_zone, zoned_on, zoned_not}
-use Rattle.sigmf_datetimes.specs.Datetimes.{zoned}
-use Rattle.json_strings.specs.Stream.{stream}
 use Rattle.sigmf_datetimes.proofs.datetimes.is_zoned.Goals as goal
 
 pub loop-b-init : goal.loop-b-init

@@ -1,8 +1,5 @@
-use borrow.Author.Rules.{rules}
 use lib.ListN.{length}
-use mathlib.Core.Path.{◌≡◌, refl, sym, ◌∙◌}
-use Rattle.json_strings.proofs.DecodeLaws.{streamed_next, streamed_end, shorter}
-use Rattle.sigmf_datetimes.proofs.DatetimeLaws.{zoned_end, zoned_zone, zoned_on, zoned_not}
+use mathlib.Core.Path.{◌≡◌}
 use Rattle.sigmf_datetimes.specs.Datetimes.{zoned}
 use Rattle.json_strings.specs.Stream.{stream}
 use Rattle.sigmf_datetimes.proofs.datetimes.is_zoned.Given as goal

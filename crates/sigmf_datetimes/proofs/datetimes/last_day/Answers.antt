@@ -2,7 +2,6 @@ use native.Mathlib.Omega.{arith}
 use mathlib.Core.Path.{sym, ◌∙◌}
 use Rattle.sigmf_datetimes.specs.Datetimes.{last_day, month_days}
 use Rattle.sigmf_datetimes.proofs.DatetimeLaws.{no_month}
-use borrow.Author.Rules.{rules}
 use Rattle.sigmf_datetimes.proofs.datetimes.last_day.Goals as goal
 
 pub returns-then-is_leap : goal.returns-then-is_leap

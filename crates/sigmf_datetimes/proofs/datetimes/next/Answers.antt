@@ -2,7 +2,6 @@ use native.Mathlib.Omega.{arith}
 use mathlib.Core.Path.{refl, sym, ◌∙◌}
 use Rattle.json_blocks.proofs.ByteLaws.{within_is}
 use Rattle.sigmf_datetimes.proofs.DirectLaws.{self_inside, self_next}
-use borrow.Author.Rules.{rules}
 use Rattle.sigmf_datetimes.proofs.datetimes.next.Goals as goal
 
 pub overflow_add-i : goal.overflow_add-i

@@ -3,7 +3,6 @@ use mathlib.Core.Path.{sym, ◌∙◌}
 use Rattle.json_blocks.proofs.ByteLaws.{within_is}
 use Rattle.json_strings.proofs.DecodeLaws.{streamed_next, streamed_end}
 use Rattle.sigmf_datetimes.proofs.DatetimeLaws.{pair_end, pair_first, pair_one, pair_second, pair_both}
-use borrow.Author.Rules.{rules}
 use Rattle.sigmf_datetimes.proofs.datetimes.pair.Goals as goal
 
 pub returns-in_default : goal.returns-in_default

@@ -1,6 +1,5 @@
 use Rattle.json_strings.proofs.DecodeLaws.{streamed_next, streamed_end}
 use Rattle.sigmf_datetimes.proofs.DatetimeLaws.{mark_1, mark_2, mark_3, mark_4}
-use borrow.Author.Rules.{rules}
 use Rattle.sigmf_datetimes.proofs.datetimes.pair_then.Goals as goal
 
 pub returns-in_default : goal.returns-in_default

@@ -1,10 +1,7 @@
-use Rattle.sigmf_extensions.proofs.ExtensionLaws.{extension_is}
-use borrow.Author.Rules.{rules}
-use native.Mathlib.Omega.{arith}
 use lib.ListN.{length}
 use Prim.Native.Nat.{◌-◌}
-use mathlib.Core.Path.{◌≡◌, sym, ◌∙◌}
-use Rattle.sigmf_extensions.proofs.EntriesLaws.{entries_low, entries_from, entry_past, entries_on, entries_over, entries_begin, entries_past, entries_are}
+use mathlib.Core.Path.{◌≡◌}
+use Rattle.sigmf_extensions.proofs.EntriesLaws.{entries_low, entries_from}
 use Rattle.refusals.specs.Refusals.{least}
 use Rattle.sigmf_extensions.proofs.entries.entries_refusal.Given as goal
 

@@ -1,4 +1,3 @@
-use borrow.Author.Rules.{rules}
 use Rattle.sigmf_extensions.proofs.entry.count.Goals as goal
 
 pub returns-in-Name : goal.returns-in-Name

@@ -1,6 +1,5 @@
 use mathlib.Core.Path.{sym, ◌∙◌}
 use Rattle.sigmf_extensions.proofs.ExtensionLaws.{class_name, class_name_not, class_version, class_version_not, class_other, class_true, class_false, class_optional_not}
-use borrow.Author.Rules.{rules}
 use Rattle.sigmf_extensions.proofs.entry.entry_member.Goals as goal
 
 pub returns-then-has_type : goal.returns-then-has_type

@@ -1,6 +1,5 @@
 use mathlib.Core.Path.{sym, ◌∙◌}
 use Rattle.sigmf_extensions.proofs.ExtensionLaws.{entry_none, entry_is, entry_refusal}
-use borrow.Author.Rules.{rules}
 use Rattle.sigmf_extensions.proofs.entry.extension.Goals as goal
 
 pub returns-then-has_type : goal.returns-then-has_type

@@ -1,7 +1,6 @@
 use mathlib.Core.Path.{sym, ◌∙◌}
 use borrow.Author.Tests.{eq-eqb, ne_eqb}
 use Rattle.sigmf_extensions.specs.Extensions.{judged}
-use borrow.Author.Rules.{rules}
 use Rattle.sigmf_extensions.proofs.entry.judge.Goals as goal
 
 pub returns-then-is_needed : goal.returns-then-is_needed

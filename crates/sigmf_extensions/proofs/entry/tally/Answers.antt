@@ -1,10 +1,8 @@
-use borrow.Author.Rules.{rules}
 use native.Mathlib.Omega.{arith}
-use lib.ListN.{length}
 use Prim.Native.Nat.{ℕ, ◌-◌}
-use mathlib.Core.Path.{◌≡◌, ap, ◌∙◌}
-use Rattle.sigmf_extensions.specs.Extensions.{tally_from, tally_of}
-use Rattle.sigmf_extensions.proofs.ExtensionLaws.{Bounded, bounded_on, tally_end, step_on, tally_on}
+use mathlib.Core.Path.{ap, ◌∙◌}
+use Rattle.sigmf_extensions.specs.Extensions.{tally_from}
+use Rattle.sigmf_extensions.proofs.ExtensionLaws.{bounded_on, tally_end, step_on, tally_on}
 use Rattle.json_walk.specs.Members.{members_from}
 use Rattle.sigmf_extensions.specs.Extensions.{no_members}
 use Rattle.sigmf_extensions.proofs.entry.tally.Goals as goal

@@ -1,12 +1,9 @@
-use borrow.Author.Rules.{rules}
-use native.Mathlib.Omega.{arith}
 use lib.ListN.{length}
-use Prim.Native.Nat.{ℕ, ◌-◌}
-use mathlib.Core.Path.{◌≡◌, ap, ◌∙◌}
+use Prim.Native.Nat.{◌-◌}
+use mathlib.Core.Path.{◌≡◌}
 use Rattle.sigmf_extensions.specs.Extensions.{tally_from, tally_of}
-use Rattle.sigmf_extensions.proofs.ExtensionLaws.{Bounded, bounded_on, tally_end, step_on, tally_on}
+use Rattle.sigmf_extensions.proofs.ExtensionLaws.{Bounded}
 use Rattle.json_walk.specs.Members.{members_from}
-use Rattle.sigmf_extensions.specs.Extensions.{no_members}
 use Rattle.sigmf_extensions.proofs.entry.tally.Given as goal
 
 abbrev pub invariant-loop-m : goal.invariant-loop-m

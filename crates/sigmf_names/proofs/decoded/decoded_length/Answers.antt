@@ -1,7 +1,7 @@
 use borrow.Author.Rules.{rules}
 use Prim.Native.Nat.{◌-◌}
 use mathlib.Core.Path.{refl, sym, ◌∙◌}
-use Rattle.sigmf_names.proofs.DecodedLaws.{direct_inside, direct_next, Counted, count_start, count_on, count_end, count_full}
+use Rattle.sigmf_names.proofs.DecodedLaws.{direct_inside, direct_next, count_start, count_on, count_end, count_full}
 use Rattle.sigmf_names.proofs.decoded.decoded_length.Goals as goal
 
 pub loop-n-init : goal.loop-n-init

@@ -1,7 +1,5 @@
-use borrow.Author.Rules.{rules}
 use Prim.Native.Nat.{◌-◌}
-use mathlib.Core.Path.{refl, sym, ◌∙◌}
-use Rattle.sigmf_names.proofs.DecodedLaws.{direct_inside, direct_next, Counted, count_start, count_on, count_end, count_full}
+use Rattle.sigmf_names.proofs.DecodedLaws.{Counted}
 use Rattle.sigmf_names.proofs.decoded.decoded_length.Given as goal
 
 abbrev pub invariant-loop-n : goal.invariant-loop-n

@@ -1,7 +1,6 @@
 use mathlib.Core.Path.{refl}
 use borrow.Author.Tests.{eq-eqb, ne_eqb, lt-ltb, le-ltb}
 use Rattle.sigmf_names.specs.DecodedCode.{direct_at}
-use borrow.Author.Rules.{rules}
 use Rattle.sigmf_names.proofs.decoded.is_direct.Goals as goal
 
 pub returns-then-at-raw : goal.returns-then-at-raw

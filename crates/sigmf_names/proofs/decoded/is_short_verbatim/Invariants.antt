@@ -1,10 +1,8 @@
-use borrow.Author.Rules.{rules}
 use lib.ListN.{length, drop}
 use Prim.Native.Nat.{◌-◌}
-use mathlib.Core.Path.{◌≡◌, refl, sym, ◌∙◌}
+use mathlib.Core.Path.{◌≡◌}
 use Rattle.json_blocks.specs.Blocks.{ordinary_byte}
 use Rattle.json_blocks.specs.Lists.{all}
-use Rattle.sigmf_names.proofs.DecodedLaws.{verbatim_end, verbatim_not, verbatim_on}
 use Rattle.sigmf_names.proofs.decoded.is_short_verbatim.Given as goal
 
 abbrev pub invariant-loop-i : goal.invariant-loop-i

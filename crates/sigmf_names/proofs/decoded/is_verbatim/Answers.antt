@@ -1,8 +1,7 @@
-use borrow.Author.Rules.{rules}
 use native.Mathlib.Omega.{arith}
 use Prim.Native.Nat.{◌-◌}
 use mathlib.Core.Path.{sym, ◌∙◌}
-use Rattle.sigmf_names.proofs.DecodedLaws.{OrdinaryTo, blocks_on, blocks_not, blocks_end}
+use Rattle.sigmf_names.proofs.DecodedLaws.{blocks_on, blocks_not, blocks_end}
 use Rattle.sigmf_names.proofs.decoded.is_verbatim.Goals as goal
 
 pub returns-then-raw-lt-BLOCK : goal.returns-then-raw-lt-BLOCK

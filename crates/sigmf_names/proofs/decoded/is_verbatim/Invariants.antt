@@ -1,8 +1,5 @@
-use borrow.Author.Rules.{rules}
-use native.Mathlib.Omega.{arith}
 use Prim.Native.Nat.{◌-◌}
-use mathlib.Core.Path.{sym, ◌∙◌}
-use Rattle.sigmf_names.proofs.DecodedLaws.{OrdinaryTo, blocks_on, blocks_not, blocks_end}
+use Rattle.sigmf_names.proofs.DecodedLaws.{OrdinaryTo}
 use Rattle.sigmf_names.proofs.decoded.is_verbatim.Given as goal
 
 abbrev pub invariant-loop-i : goal.invariant-loop-i

@@ -1,9 +1,8 @@
 use borrow.Author.Rules.{rules}
 use native.Mathlib.Omega.{arith}
-use lib.ListN.{length}
 use Prim.Native.Nat.{◌-◌}
 use mathlib.Core.Path.{refl, sym, ◌∙◌}
-use Rattle.sigmf_names.proofs.DecodedLaws.{direct_inside, direct_next, Put, put_start, put_on, put_end, put_full}
+use Rattle.sigmf_names.proofs.DecodedLaws.{direct_inside, direct_next, put_start, put_on, put_end, put_full}
 use Rattle.sigmf_names.proofs.decoded.put_decoded.Goals as goal
 
 pub loop-n-init : goal.loop-n-init

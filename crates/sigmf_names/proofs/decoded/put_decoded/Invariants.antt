@@ -1,9 +1,6 @@
-use borrow.Author.Rules.{rules}
-use native.Mathlib.Omega.{arith}
 use lib.ListN.{length}
 use Prim.Native.Nat.{◌-◌}
-use mathlib.Core.Path.{refl, sym, ◌∙◌}
-use Rattle.sigmf_names.proofs.DecodedLaws.{direct_inside, direct_next, Put, put_start, put_on, put_end, put_full}
+use Rattle.sigmf_names.proofs.DecodedLaws.{Put}
 use Rattle.sigmf_names.proofs.decoded.put_decoded.Given as goal
 
 abbrev pub invariant-loop-n : goal.invariant-loop-n

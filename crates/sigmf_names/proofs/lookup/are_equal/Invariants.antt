@@ -1,11 +1,8 @@
-use borrow.Author.Rules.{rules}
-use native.Mathlib.Omega.{arith}
 use lib.ListN.{length, drop}
-use Prim.Native.Nat.{◌-◌, ◌+◌}
-use mathlib.Core.Path.{◌≡◌, refl, ap, ◌∙◌}
-use mathlib.Core.Bool.{Bool, ◌&&◌}
+use Prim.Native.Nat.{◌-◌}
+use mathlib.Core.Path.{◌≡◌}
+use mathlib.Core.Bool.{◌&&◌}
 use Rattle.json_names.specs.Same.{same}
-use Rattle.sigmf_names.proofs.NameLaws.{equal_end, equal_on}
 use Rattle.sigmf_names.proofs.lookup.are_equal.Given as goal
 
 abbrev pub invariant-loop-i : goal.invariant-loop-i

@@ -1,5 +1,4 @@
 use mathlib.Core.Path.{refl, sym, ◌∙◌}
-use borrow.Author.Rules.{rules}
 use Rattle.sigmf_names.specs.LookupCode.{one_more}
 use Rattle.sigmf_names.proofs.lookup.compare.Goals as goal
 

@@ -5,10 +5,9 @@ use Rattle.sigmf_names.specs.Lookup.{names_of_length}
 use Rattle.sigmf_names.specs.LookupCode.{one_more}
 use Rattle.sigmf_names.proofs.NameLaws.{then, count_more, place_from, by_length, one_of, NoneOf, none_compared}
 use Rattle.json_blocks.specs.Lists.{all}
-use mathlib.Core.List.{[], ◌∷◌}
+use mathlib.Core.List.{◌∷◌}
 use Rattle.json_blocks.specs.TextBytes.{ascii}
 use Rattle.json_names.specs.Same.{same}
-use borrow.Author.Rules.{rules}
 use Rattle.sigmf_names.proofs.lookup.compare_global.Goals as goal
 
 pub compare-r-requires-in-11 : goal.compare-r-requires-in-11

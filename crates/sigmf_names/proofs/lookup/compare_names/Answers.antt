@@ -1,4 +1,3 @@
-use borrow.Author.Rules.{rules}
 use Rattle.sigmf_names.proofs.lookup.compare_names.Goals as goal
 
 pub returns-in-Global : goal.returns-in-Global

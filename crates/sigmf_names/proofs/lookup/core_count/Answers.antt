@@ -1,5 +1,4 @@
 use Rattle.sigmf_names.specs.Names.{global_fields, capture_fields, annotation_fields}
-use borrow.Author.Rules.{rules}
 use Rattle.sigmf_names.proofs.lookup.core_count.Goals as goal
 
 pub returns-in-Global : goal.returns-in-Global

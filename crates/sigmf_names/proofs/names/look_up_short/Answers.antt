@@ -7,7 +7,6 @@ use borrow.Author.Tests.{not-true, not-false}
 use Rattle.sigmf_names.proofs.DecodedLaws.{text_raw, text_decoded}
 use Rattle.sigmf_names.specs.Names.{core_of}
 use Rattle.sigmf_names.specs.Lookup.{lookup_in}
-use borrow.Author.Rules.{rules}
 use Rattle.sigmf_names.proofs.names.look_up_short.Goals as goal
 
 pub slice_bounds-room-end : goal.slice_bounds-room-end

@@ -1,7 +1,6 @@
 use mathlib.Core.Path.{sym, ◌∙◌}
 use Rattle.json_strings.proofs.DecodeLaws.{streamed_next, streamed_end}
 use Rattle.sigmf_texts.proofs.FormLaws.{begun_end, begun_is}
-use borrow.Author.Rules.{rules}
 use Rattle.sigmf_texts.proofs.form.begins_part.Goals as goal
 
 pub returns-in_default : goal.returns-in_default

@@ -1,7 +1,6 @@
 use mathlib.Core.Path.{sym, ◌∙◌}
 use Rattle.json_strings.proofs.DecodeLaws.{stream_start, streamed_next, streamed_end}
 use Rattle.sigmf_texts.proofs.FormLaws.{space_end, space_colon, space_is}
-use borrow.Author.Rules.{rules}
 use Rattle.sigmf_texts.proofs.form.begins_space.Goals as goal
 
 pub returns-in_default : goal.returns-in_default

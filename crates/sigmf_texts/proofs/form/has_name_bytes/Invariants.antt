@@ -1,9 +1,6 @@
-use borrow.Author.Rules.{rules}
 use lib.ListN.{length}
-use mathlib.Core.Path.{◌≡◌, refl, sym, ◌∙◌}
+use mathlib.Core.Path.{◌≡◌}
 use Rattle.json_blocks.specs.Lists.{all}
-use Rattle.json_strings.proofs.DecodeLaws.{streamed_next, streamed_end, shorter}
-use Rattle.sigmf_texts.proofs.FormLaws.{all_end, all_on, all_not}
 use Rattle.sigmf_texts.specs.Form.{name_byte}
 use Rattle.json_strings.specs.Stream.{stream}
 use Rattle.sigmf_texts.proofs.form.has_name_bytes.Given as goal

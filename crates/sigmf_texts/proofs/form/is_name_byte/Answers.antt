@@ -1,6 +1,5 @@
 use mathlib.Core.Path.{sym, ◌∙◌}
 use Rattle.sigmf_texts.specs.Form.{name_byte}
-use borrow.Author.Rules.{rules}
 use Rattle.sigmf_texts.proofs.form.is_name_byte.Goals as goal
 
 pub returns-then-is_within : goal.returns-then-is_within

@@ -1,6 +1,5 @@
 use borrow.Author.Tests.{eq-eqb, ne_eqb}
 use Rattle.sigmf_texts.specs.Form.{namespace_byte}
-use borrow.Author.Rules.{rules}
 use Rattle.sigmf_texts.proofs.form.is_space_byte.Goals as goal
 
 pub returns-then-b-eq45 : goal.returns-then-b-eq45

@@ -1,6 +1,5 @@
 use mathlib.Core.Path.{sym, ◌∙◌}
 use Rattle.sigmf_texts.proofs.FormLaws.{form_1, form_2, form_3, form_4, form_5}
-use borrow.Author.Rules.{rules}
 use Rattle.sigmf_texts.proofs.form.name_form.Goals as goal
 
 pub returns-in_default : goal.returns-in_default

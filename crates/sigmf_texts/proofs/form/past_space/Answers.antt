@@ -1,11 +1,7 @@
-use borrow.Author.Rules.{rules}
-use lib.ListN.{length}
-use mathlib.Core.Path.{◌≡◌, sym, ap, ◌∙◌}
+use mathlib.Core.Path.{sym, ap, ◌∙◌}
 use Rattle.json_strings.proofs.DecodeLaws.{stream_start, streamed_next, streamed_end, shorter}
 use Rattle.sigmf_texts.proofs.FormLaws.{past_end, past_colon, past_on, past_not}
-use Rattle.sigmf_texts.specs.Texts.{name_text}
 use Rattle.sigmf_texts.specs.FormCode.{past_space}
-use Rattle.json_strings.specs.Stream.{stream}
 use Rattle.sigmf_texts.proofs.form.past_space.Goals as goal
 
 pub loop-b-init : goal.loop-b-init

@@ -1,8 +1,5 @@
-use borrow.Author.Rules.{rules}
 use lib.ListN.{length}
-use mathlib.Core.Path.{◌≡◌, sym, ap, ◌∙◌}
-use Rattle.json_strings.proofs.DecodeLaws.{stream_start, streamed_next, streamed_end, shorter}
-use Rattle.sigmf_texts.proofs.FormLaws.{past_end, past_colon, past_on, past_not}
+use mathlib.Core.Path.{◌≡◌}
 use Rattle.sigmf_texts.specs.Texts.{name_text}
 use Rattle.sigmf_texts.specs.FormCode.{past_space}
 use Rattle.json_strings.specs.Stream.{stream}

@@ -1,10 +1,7 @@
-use borrow.Author.Rules.{rules}
 use native.Mathlib.Omega.{arith}
-use lib.ListN.{length, drop}
-use Prim.Native.Nat.{◌<◌, ◌-◌}
-use mathlib.Core.Path.{◌≡◌, refl, sym, ◌∙◌}
+use Prim.Native.Nat.{◌-◌}
+use mathlib.Core.Path.{refl, sym, ◌∙◌}
 use Rattle.json_blocks.proofs.ByteLaws.{within_is}
-use Rattle.sigmf_values.specs.ValueCode.{digits_from}
 use Rattle.sigmf_values.proofs.ValueLaws.{digits_end, digits_not, digits_on, digits_over}
 use Rattle.sigmf_values.proofs.value.digits_value.Goals as goal
 

@@ -1,11 +1,7 @@
-use borrow.Author.Rules.{rules}
-use native.Mathlib.Omega.{arith}
 use lib.ListN.{length, drop}
 use Prim.Native.Nat.{◌<◌, ◌-◌}
-use mathlib.Core.Path.{◌≡◌, refl, sym, ◌∙◌}
-use Rattle.json_blocks.proofs.ByteLaws.{within_is}
+use mathlib.Core.Path.{◌≡◌}
 use Rattle.sigmf_values.specs.ValueCode.{digits_from}
-use Rattle.sigmf_values.proofs.ValueLaws.{digits_end, digits_not, digits_on, digits_over}
 use Rattle.sigmf_values.proofs.value.digits_value.Given as goal
 
 abbrev pub invariant-loop-i : goal.invariant-loop-i

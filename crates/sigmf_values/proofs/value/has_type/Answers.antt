@@ -2,7 +2,6 @@ use Prim.Native.Nat.{ℕ}
 use mathlib.Core.Path.{ap, ◌∙◌}
 use Rattle.sigmf_values.specs.Values.{has_type, number_byte, boolean_byte}
 use lib.Dec.{eqb}
-use borrow.Author.Rules.{rules}
 use Rattle.sigmf_values.proofs.value.has_type.Goals as goal
 
 pub returns-in-Text : goal.returns-in-Text

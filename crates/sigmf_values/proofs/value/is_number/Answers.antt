@@ -1,5 +1,4 @@
 use borrow.Author.Tests.{eq-eqb, ne_eqb}
-use borrow.Author.Rules.{rules}
 use Rattle.sigmf_values.proofs.value.is_number.Goals as goal
 
 pub returns-then-b-eq45 : goal.returns-then-b-eq45

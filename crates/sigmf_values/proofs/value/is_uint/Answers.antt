@@ -1,7 +1,6 @@
 use mathlib.Core.Path.{sym, ap, ◌∙◌}
 use Rattle.sigmf_values.specs.ValueCode.{is_value}
 use Rattle.sigmf_values.proofs.ValueLaws.{uint_of_lem, uint_typed}
-use borrow.Author.Rules.{rules}
 use Rattle.sigmf_values.proofs.value.is_uint.Goals as goal
 
 pub returns-in-Value : goal.returns-in-Value

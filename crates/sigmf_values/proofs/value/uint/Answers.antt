@@ -1,5 +1,4 @@
 use Rattle.sigmf_values.proofs.ValueLaws.{uint_empty, uint_zeros, uint_zero, uint_digits, says_uint}
-use borrow.Author.Rules.{rules}
 use Rattle.sigmf_values.proofs.value.uint.Goals as goal
 
 pub returns-then-part-eq0 : goal.returns-then-part-eq0

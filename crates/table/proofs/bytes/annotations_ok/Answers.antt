@@ -1,9 +1,5 @@
 use borrow.Author.Rules.{rules}
-use Prim.Native.Nat.{◌≤◌, ◌-◌}
-use mathlib.Core.Path.{◌≡◌}
-use Rattle.little_endian.specs.LittleEndian.{numbers_of}
-use Rattle.table.specs.Rows.{annotation_at, rest, annotations}
-use Rattle.table.specs.Judge.{annotations_ok}
+use Prim.Native.Nat.{◌-◌}
 use Rattle.table.proofs.TableLaws.{note_bad, note_on, note_done}
 use Rattle.table.proofs.bytes.annotations_ok.Goals as goal
 

@@ -1,6 +1,5 @@
 use Prim.Native.Nat.{◌-◌}
 use Rattle.table.proofs.ByteLaws.{byte_capture, no_capture}
-use borrow.Author.Rules.{rules}
 use Rattle.table.proofs.bytes.capture_at.Goals as goal
 
 pub returns-then-i-rows : goal.returns-then-i-rows

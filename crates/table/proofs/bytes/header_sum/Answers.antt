@@ -1,7 +1,6 @@
 use borrow.Author.Rules.{rules}
 use Prim.Native.Nat.{◌-◌}
-use Rattle.little_endian.specs.LittleEndian.{numbers_of}
-use Rattle.table.proofs.TableLaws.{Summing, sum_begin, sum_done, sum_over, head_fits, head_below, sum_bad, sum_on}
+use Rattle.table.proofs.TableLaws.{sum_begin, sum_done, sum_over, head_fits, head_below, sum_bad, sum_on}
 use Rattle.table.proofs.bytes.header_sum.Goals as goal
 
 pub loop-i-init : goal.loop-i-init

@@ -1,6 +1,5 @@
 use Prim.Native.Nat.{◌-◌}
 use Rattle.table.proofs.TableLaws.{lay_over, lay_within, lay_below, lay_bad, lay_good}
-use borrow.Author.Rules.{rules}
 use Rattle.table.proofs.bytes.layout_ok.Goals as goal
 
 pub overflow_sub-cap : goal.overflow_sub-cap

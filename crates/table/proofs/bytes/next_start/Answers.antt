@@ -1,6 +1,5 @@
 use Prim.Native.Nat.{◌-◌}
 use Rattle.table.proofs.TableLaws.{next_some, next_none}
-use borrow.Author.Rules.{rules}
 use Rattle.table.proofs.bytes.next_start.Goals as goal
 
 pub returns-then-i-n : goal.returns-then-i-n

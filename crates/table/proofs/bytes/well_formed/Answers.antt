@@ -4,7 +4,6 @@ use Rattle.table.specs.Rows.{capture_width, annotation_width}
 use Rattle.little_endian.specs.LittleEndian.{numbers_of}
 use Rattle.table.proofs.ByteLaws.{row_count}
 use Rattle.table.proofs.TableLaws.{wf_numbers, wf_wide, wf_small, wf_ends, wf_captures, wf_annotations, wf_layout, wf_rows}
-use borrow.Author.Rules.{rules}
 use Rattle.table.proofs.bytes.well_formed.Goals as goal
 
 pub returns-then-t-caps : goal.returns-then-t-caps

@@ -3,7 +3,6 @@ use Prim.Native.Nat.{ℕ}
 use mathlib.Core.Path.{ap, ◌∙◌}
 use Rattle.writer.proofs.LengthLaws.{annotation_over, annotation_leaves}
 use Rattle.decimal.specs.Decimal.{digits_of}
-use borrow.Author.Rules.{rules}
 use Rattle.writer.proofs.parts.annotation_left.Goals as goal
 
 pub returns-then-n-room : goal.returns-then-n-room

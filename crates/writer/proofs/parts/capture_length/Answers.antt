@@ -1,5 +1,4 @@
 use Rattle.writer.proofs.LengthLaws.{capture_long}
-use borrow.Author.Rules.{rules}
 use Rattle.writer.proofs.parts.capture_length.Goals as goal
 
 pub returns : goal.returns

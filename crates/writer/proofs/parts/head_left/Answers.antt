@@ -1,7 +1,6 @@
 use native.Mathlib.Omega.{arith}
 use Rattle.writer.proofs.LengthLaws.{head_over, head_leaves}
 use Rattle.sigmf_datatypes.proofs.Laws.{name_most}
-use borrow.Author.Rules.{rules}
 use Rattle.writer.proofs.parts.head_left.Goals as goal
 
 pub overflow_add-n : goal.overflow_add-n

@@ -1,7 +1,6 @@
 use native.Mathlib.Omega.{arith}
 use Rattle.output.proofs.Writing.{byte_inside, byte_sum, first_room, next_from, next_put, put_sum, writes_byte, writes_end, writes_first, writes_long}
 use Rattle.writer.proofs.TextLaws.{item_parts, capture_parts}
-use borrow.Author.Rules.{rules}
 use Rattle.writer.proofs.parts.put_capture.Goals as goal
 
 pub put_comma-a-requires : goal.put_comma-a-requires

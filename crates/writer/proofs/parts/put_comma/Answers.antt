@@ -1,5 +1,4 @@
 use Rattle.writer.proofs.TextLaws.{comma_nothing, comma_room, comma_put}
-use borrow.Author.Rules.{rules}
 use Rattle.writer.proofs.parts.put_comma.Goals as goal
 
 pub returns-then-k-eq0 : goal.returns-then-k-eq0

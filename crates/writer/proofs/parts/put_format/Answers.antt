@@ -1,7 +1,6 @@
 use native.Mathlib.Omega.{arith}
 use Rattle.output.proofs.Writing.{first_put, next_from, next_put, put_sum, writes_end}
 use Rattle.writer.proofs.TextLaws.{format_parts}
-use borrow.Author.Rules.{rules}
 use Rattle.writer.proofs.parts.put_format.Goals as goal
 
 pub slice_bounds-put_datatype_name-count : goal.slice_bounds-put_datatype_name-count

@@ -2,7 +2,6 @@ use native.Mathlib.Omega.{arith}
 use mathlib.Core.Path.{sym, ◌∙◌}
 use Rattle.output.proofs.Writing.{first_put, next_from, next_put, put_sum, writes_end}
 use Rattle.writer.proofs.TextLaws.{raw_parts, raw_nothing}
-use borrow.Author.Rules.{rules}
 use Rattle.writer.proofs.parts.put_raw.Goals as goal
 
 pub returns-then-is_absent : goal.returns-then-is_absent

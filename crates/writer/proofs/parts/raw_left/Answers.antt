@@ -1,5 +1,4 @@
 use Rattle.writer.proofs.LengthLaws.{raw_absent, raw_around, raw_over, raw_leaves}
-use borrow.Author.Rules.{rules}
 use Rattle.writer.proofs.parts.raw_left.Goals as goal
 
 pub returns-then-is_absent : goal.returns-then-is_absent
