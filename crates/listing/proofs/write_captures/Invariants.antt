@@ -2,7 +2,7 @@ use Prim.Native.Nat.{◌-◌}
 use Rattle.output.proofs.Writing.{Writes}
 use Rattle.listing.specs.Lines.{capture_line}
 use Rattle.table.specs.Rows.{capture_at, rest, flat}
-use mathlib.Core.List.{◌∷◌}
+use mathlib.Core.List.{[], ◌∷◌}
 use Rattle.listing.proofs.write_captures.Given as goal
 
 abbrev pub invariant-loop-k : goal.invariant-loop-k

@@ -4,7 +4,7 @@ use Rattle.listing_text.specs.Shown.{shown_byte}
 use Rattle.table.specs.Rows.{flat}
 use Rattle.json_strings.specs.Decode.{decoded_from}
 use Rattle.json_strings.specs.Stream.{stream}
-use mathlib.Core.List.{◌∷◌}
+use mathlib.Core.List.{[], ◌∷◌}
 use Rattle.listing_text.proofs.put_shown.Given as goal
 
 abbrev pub invariant-loop-b : goal.invariant-loop-b

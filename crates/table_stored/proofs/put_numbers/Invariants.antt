@@ -1,4 +1,4 @@
-use mathlib.Core.List.{◌∷◌}
+use mathlib.Core.List.{[], ◌∷◌}
 use Rattle.table.specs.Rows.{rest}
 use Rattle.output.proofs.Writing.{Writes}
 use Rattle.table_stored.specs.Form.{eight_each}

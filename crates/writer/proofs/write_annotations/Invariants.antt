@@ -3,7 +3,7 @@ use Rattle.output.proofs.Writing.{Writes}
 use Rattle.table.specs.Rows.{annotation_at, rest, flat}
 use Rattle.writer.specs.TextParts.{item}
 use Rattle.writer.specs.Metadata.{annotation_text}
-use mathlib.Core.List.{◌∷◌}
+use mathlib.Core.List.{[], ◌∷◌}
 use Rattle.writer.proofs.write_annotations.Given as goal
 
 abbrev pub invariant-loop-k : goal.invariant-loop-k

@@ -3,7 +3,7 @@ use mathlib.Core.Path.{sym, ap, ◌∙◌}
 use mathlib.Core.Path.{sym, ◌∙◌}
 use Rattle.json_strings.specs.declared.Unit.TheVariants.{Byte, Escape}
 use Rattle.json_strings.proofs.StepLaws.{step_unit}
-use mathlib.Core.List.{◌∷◌}
+use mathlib.Core.List.{[], ◌∷◌}
 use Rattle.json_strings.specs.Characters.{step_of}
 use mathlib.Core.Path.{ap}
 use Prim.Native.Nat.{ℕ, ◌+◌}

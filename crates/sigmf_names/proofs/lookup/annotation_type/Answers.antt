@@ -1,5 +1,6 @@
+use native.Mathlib.Omega.{arith}
 -- The code's types are those of the list of specs/, field by field: computed.
-use Rattle.json_blocks.proofs.MatchLaws.{Apart, apart_over}
+use Rattle.json_blocks.proofs.MatchLaws.{Apart}
 use Rattle.sigmf_names.specs.Names.{annotation_fields, core_at, type_at}
 use Rattle.sigmf_names.proofs.NameLaws.{type_over}
 use Rattle.sigmf_names.proofs.lookup.annotation_type.Goals as goal
@@ -46,4 +47,4 @@ returns-in-9 c = rw c.in-9.is
 
 pub returns-in_default : goal.returns-in_default
 unfolding annotation_fields Apart
-returns-in_default c = type_over annotation_fields c.args.i (apart_over c.args.i 10 c.in-0.rest)
+returns-in_default c = type_over annotation_fields c.args.i (omega arith)

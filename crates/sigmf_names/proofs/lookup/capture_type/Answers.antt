@@ -1,5 +1,6 @@
+use native.Mathlib.Omega.{arith}
 -- The code's types are those of the list of specs/, field by field: computed.
-use Rattle.json_blocks.proofs.MatchLaws.{Apart, apart_over}
+use Rattle.json_blocks.proofs.MatchLaws.{Apart}
 use Rattle.sigmf_names.specs.Names.{capture_fields, core_at, type_at}
 use Rattle.sigmf_names.proofs.NameLaws.{type_over}
 use Rattle.sigmf_names.proofs.lookup.capture_type.Goals as goal
@@ -30,4 +31,4 @@ returns-in-5 c = rw c.in-5.is
 
 pub returns-in_default : goal.returns-in_default
 unfolding capture_fields Apart
-returns-in_default c = type_over capture_fields c.args.i (apart_over c.args.i 6 c.in-0.rest)
+returns-in_default c = type_over capture_fields c.args.i (omega arith)

@@ -5,7 +5,7 @@ use Rattle.sigmf_names.specs.Lookup.{names_of_length}
 use Rattle.sigmf_names.specs.LookupCode.{one_more}
 use Rattle.sigmf_names.proofs.NameLaws.{then, count_more, place_from, by_length, one_of, NoneOf, none_compared}
 use Rattle.json_blocks.specs.Lists.{all}
-use mathlib.Core.List.{◌∷◌}
+use mathlib.Core.List.{[], ◌∷◌}
 use Rattle.json_blocks.specs.TextBytes.{ascii}
 use Rattle.json_names.specs.Same.{same}
 use Rattle.sigmf_names.proofs.lookup.compare_annotation.Goals as goal
@@ -70,4 +70,4 @@ returns-in-20 c =
 
 pub returns-in_default : goal.returns-in_default
 unfolding annotation_fields all one_of NoneOf
-returns-in_default c = none_compared annotation_fields (20 ∷ 17 ∷ 14 ∷ 13 ∷ 12 ∷ 10 ∷ 9 ∷ []) c.args.text.now refl c.in-9.rest
+returns-in_default c = none_compared annotation_fields (20 ∷ 17 ∷ 14 ∷ 13 ∷ 12 ∷ 10 ∷ 9 ∷ []) c.args.text.now refl (((((((tt, λ e. omega (arith, e)), λ e. omega (arith, e)), λ e. omega (arith, e)), λ e. omega (arith, e)), λ e. omega (arith, e)), λ e. omega (arith, e)), λ e. omega (arith, e))

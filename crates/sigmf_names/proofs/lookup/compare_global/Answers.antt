@@ -5,7 +5,7 @@ use Rattle.sigmf_names.specs.Lookup.{names_of_length}
 use Rattle.sigmf_names.specs.LookupCode.{one_more}
 use Rattle.sigmf_names.proofs.NameLaws.{then, count_more, place_from, by_length, one_of, NoneOf, none_compared}
 use Rattle.json_blocks.specs.Lists.{all}
-use mathlib.Core.List.{◌∷◌}
+use mathlib.Core.List.{[], ◌∷◌}
 use Rattle.json_blocks.specs.TextBytes.{ascii}
 use Rattle.json_names.specs.Same.{same}
 use Rattle.sigmf_names.proofs.lookup.compare_global.Goals as goal
@@ -117,4 +117,4 @@ returns-in-19 c =
 
 pub returns-in_default : goal.returns-in_default
 unfolding global_fields all one_of NoneOf
-returns-in_default c = none_compared global_fields (19 ∷ 18 ∷ 17 ∷ 16 ∷ 15 ∷ 13 ∷ 12 ∷ 11 ∷ 9 ∷ 7 ∷ []) c.args.text.now refl c.in-7.rest
+returns-in_default c = none_compared global_fields (19 ∷ 18 ∷ 17 ∷ 16 ∷ 15 ∷ 13 ∷ 12 ∷ 11 ∷ 9 ∷ 7 ∷ []) c.args.text.now refl ((((((((((tt, λ e. omega (arith, e)), λ e. omega (arith, e)), λ e. omega (arith, e)), λ e. omega (arith, e)), λ e. omega (arith, e)), λ e. omega (arith, e)), λ e. omega (arith, e)), λ e. omega (arith, e)), λ e. omega (arith, e)), λ e. omega (arith, e))
