@@ -1,0 +1,15 @@
+use borrow.Author.Rules.{rules}
+use native.Mathlib.Omega.{arith}
+use lib.ListN.{length}
+use Prim.Native.Nat.{◌-◌}
+use mathlib.Core.Path.{sym, ◌∙◌}
+use Rattle.reader.proofs.TopLaws.{find_begin, find_end, find_read, find_past, find_on}
+use Rattle.reader.proofs.ReadLaws.{Reading, reading_begin, reading_room}
+use Rattle.json_blocks.proofs.ByteLaws.{inside}
+use Rattle.reader.proofs.top.read_top.Given as goal
+
+abbrev pub invariant-loop-n : goal.invariant-loop-n
+invariant-loop-n l = Reading l.s l.initial.j l.j l.top l.initial.caps l.initial.notes l.caps l.notes
+
+abbrev pub decreases-loop-n : goal.decreases-loop-n
+decreases-loop-n l = length l.s - l.j
