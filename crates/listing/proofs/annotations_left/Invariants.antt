@@ -1,9 +1,11 @@
+use borrow.Author.Rules.{rules}
 use lib.ListN.{length}
 use Prim.Native.Nat.{◌-◌}
-use mathlib.Core.Path.{◌≡◌}
+use mathlib.Core.Path.{◌≡◌, refl}
 use Rattle.table.specs.Rows.{annotation_at, rest, flat}
 use Rattle.output.specs.Left.{left_after}
 use Rattle.listing.specs.Lines.{annotation_line}
+use Rattle.output.proofs.RowLines.{count_end, line_over, line_on}
 use Rattle.listing.proofs.annotations_left.Given as goal
 
 abbrev pub invariant-loop-k : goal.invariant-loop-k

@@ -1,8 +1,11 @@
+use borrow.Author.Rules.{rules}
+use lib.ListN.{length}
 use Prim.Native.Nat.{◌-◌}
-use mathlib.Core.Path.{refl}
+use mathlib.Core.Path.{◌≡◌, refl}
 use Rattle.output.proofs.RowLines.{count_end, count_over, count_on}
+use Rattle.output.specs.Left.{left_after}
 use Rattle.listing.specs.Lines.{capture_line}
-use Rattle.table.specs.Rows.{capture_at}
+use Rattle.table.specs.Rows.{capture_at, rest, flat}
 use Rattle.listing.proofs.captures_left.Goals as goal
 
 pub loop-k-init : goal.loop-k-init

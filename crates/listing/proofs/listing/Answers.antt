@@ -1,4 +1,5 @@
 use Rattle.listing.proofs.ListingLaws.{answer_table, memory_table, answer_label, memory_label, answer_room, memory_room, room_of, answer_all, memory_all}
+use borrow.Author.Rules.{rules}
 use Rattle.listing.proofs.listing.Goals as goal
 
 pub returns-in_default : goal.returns-in_default

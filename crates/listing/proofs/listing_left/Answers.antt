@@ -1,4 +1,5 @@
 use Rattle.listing.proofs.ListingLaws.{first_over, second_over, third_left}
+use borrow.Author.Rules.{rules}
 use Rattle.listing.proofs.listing_left.Goals as goal
 
 pub returns-then-l-room : goal.returns-then-l-room

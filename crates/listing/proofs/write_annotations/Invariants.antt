@@ -1,5 +1,8 @@
+use borrow.Author.Rules.{rules}
+use native.Mathlib.Omega.{arith}
 use Prim.Native.Nat.{◌-◌}
-use Rattle.output.proofs.Writing.{Writes}
+use Rattle.output.proofs.Writing.{Writes, writes_none, writes_end, writes_long, next_from, next_room, next_sum, writes_next, whole_part}
+use Rattle.output.proofs.RowLines.{write_more, write_none}
 use Rattle.listing.specs.Lines.{annotation_line}
 use Rattle.table.specs.Rows.{annotation_at, rest, flat}
 use mathlib.Core.List.{[], ◌∷◌}

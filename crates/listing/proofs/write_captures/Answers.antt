@@ -1,9 +1,11 @@
+use borrow.Author.Rules.{rules}
 use native.Mathlib.Omega.{arith}
 use Prim.Native.Nat.{◌-◌}
-use Rattle.output.proofs.Writing.{writes_none, writes_end, writes_long, next_from, next_room, next_sum, writes_next, whole_part}
+use Rattle.output.proofs.Writing.{Writes, writes_none, writes_end, writes_long, next_from, next_room, next_sum, writes_next, whole_part}
 use Rattle.output.proofs.RowLines.{write_more, write_none}
 use Rattle.listing.specs.Lines.{capture_line}
-use Rattle.table.specs.Rows.{capture_at}
+use Rattle.table.specs.Rows.{capture_at, rest, flat}
+use mathlib.Core.List.{[], ◌∷◌}
 use Rattle.listing.proofs.write_captures.Goals as goal
 
 pub loop-k-init : goal.loop-k-init

@@ -1,6 +1,7 @@
 use native.Mathlib.Omega.{arith}
 use Rattle.output.proofs.Writing.{writes_end, first_room, writes_first, next_from, next_room, next_sum, writes_next}
 use Rattle.listing.proofs.ListingLaws.{listing_parts}
+use borrow.Author.Rules.{rules}
 use Rattle.listing.proofs.write_listing.Goals as goal
 
 pub put_recording_line-a-requires : goal.put_recording_line-a-requires

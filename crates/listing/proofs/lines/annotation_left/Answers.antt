@@ -1,3 +1,4 @@
+use borrow.Author.Rules.{rules}
 use Rattle.listing.proofs.LineLaws.{annotation_over, annotation_leaves}
 use Rattle.listing.proofs.lines.annotation_left.Goals as goal
 

@@ -1,4 +1,5 @@
 use Rattle.listing.proofs.LineLaws.{capture_long}
+use borrow.Author.Rules.{rules}
 use Rattle.listing.proofs.lines.capture_length.Goals as goal
 
 pub returns : goal.returns

@@ -1,5 +1,6 @@
 use native.Mathlib.Omega.{arith}
 use Rattle.sigmf_datatypes.proofs.Laws.{name_most}
+use borrow.Author.Rules.{rules}
 use Rattle.listing.proofs.lines.name_length.Goals as goal
 
 pub returns : goal.returns

@@ -1,6 +1,7 @@
 use native.Mathlib.Omega.{arith}
 use Rattle.output.proofs.Writing.{writes_end, first_room, writes_first, next_from, next_room, next_sum, writes_next}
 use Rattle.listing.proofs.LineLaws.{annotation_parts}
+use borrow.Author.Rules.{rules}
 use Rattle.listing.proofs.lines.put_annotation_line.Goals as goal
 
 pub put_two-a-requires : goal.put_two-a-requires

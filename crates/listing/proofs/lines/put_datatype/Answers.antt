@@ -1,6 +1,7 @@
 use native.Mathlib.Omega.{arith}
 use Rattle.sigmf_datatypes.specs.Datatypes.{datatype_name}
 use Rattle.output.proofs.Writing.{writes_end, first_put, next_from, put_sum, next_put, pair_parts}
+use borrow.Author.Rules.{rules}
 use Rattle.listing.proofs.lines.put_datatype.Goals as goal
 
 pub slice_bounds-put_datatype_name-count : goal.slice_bounds-put_datatype_name-count

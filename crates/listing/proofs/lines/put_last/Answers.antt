@@ -1,6 +1,7 @@
 use native.Mathlib.Omega.{arith}
 use Rattle.output.proofs.Writing.{writes_none, writes_end, writes_long, byte_inside, byte_sum, writes_byte, next_from, put_sum, next_put}
 use Rattle.listing.proofs.LineLaws.{last_parts}
+use borrow.Author.Rules.{rules}
 use Rattle.listing.proofs.lines.put_last.Goals as goal
 
 pub bounds-out-0 : goal.bounds-out-0

@@ -1,6 +1,7 @@
 use native.Mathlib.Omega.{arith}
 use Rattle.output.proofs.Writing.{writes_end, writes_long, byte_inside, byte_sum, writes_byte, first_room, writes_first, next_from, next_room, next_sum, writes_next, put_sum, next_put}
 use Rattle.listing.proofs.LineLaws.{recording_parts}
+use borrow.Author.Rules.{rules}
 use Rattle.listing.proofs.lines.put_recording_line.Goals as goal
 
 pub put_datatype-a-requires : goal.put_datatype-a-requires

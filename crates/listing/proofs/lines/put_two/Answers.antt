@@ -1,6 +1,7 @@
 use native.Mathlib.Omega.{arith}
 use Rattle.output.proofs.Writing.{writes_end, first_put, next_from, put_sum, next_put}
 use Rattle.listing.proofs.LineLaws.{two_parts}
+use borrow.Author.Rules.{rules}
 use Rattle.listing.proofs.lines.put_two.Goals as goal
 
 pub slice_bounds-put_field-count : goal.slice_bounds-put_field-count
