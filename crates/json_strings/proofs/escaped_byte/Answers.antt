@@ -15,9 +15,13 @@ returns-in_default c =
     c.escape_unit-u.ensures c.in_default.is c.if-passed-eq0.false
 
 pub utf8_byte-b-requires : goal.utf8_byte-b-requires
-utf8_byte-b-requires c = record { p_bound = unit_point _ _ _ _
+utf8_byte-b-requires c = record {
+  p_bound = unit_point _ _ _ _
       (unit_escape _ _ c.requires.at_in_bounds c.requires.at_value _
-      c.escape_unit-u.ensures ∙ c.in-Escape.is); n_value = c.utf8_len-n.ensures; k_lt_n = c.if-passed-n.true }
+      c.escape_unit-u.ensures ∙ c.in-Escape.is);
+  n_value = c.utf8_len-n.ensures;
+  k_lt_n = c.if-passed-n.true;
+}
 
 pub returns-then-more-n : goal.returns-then-more-n
 returns-then-more-n c =

@@ -18,7 +18,7 @@ look_up_short-requires c =
     record {
       verbatim_value = c.is_verbatim-verbatim.ensures;
       raw_len_bound = λ e. elim c.if-not-verbatim.branch [
-          then-not-verbatim+else-decoded_length-gt-LONGEST w ↦ counted_short text _ w.decoded_length.ensures w.if-decoded_length-gt-LONGEST.false
+        | then-not-verbatim+else-decoded_length-gt-LONGEST w ↦ counted_short text _ w.decoded_length.ensures w.if-decoded_length-gt-LONGEST.false
         | else-not-verbatim w ↦ absurd (false≢true (sym e ∙ w.if-not-verbatim.false))
-        ];
+      ];
     }

@@ -13,7 +13,7 @@ slice_bounds-room-end c =
     elim c.if-not-verbatim.branch [ then-not-verbatim w ↦ rw (w.n-is, w.room-is) w.put_decoded-n.ensures.count | else-not-verbatim w ↦ omega (arith, w.n-is) ]
 
 pub slice_bounds-either-end : goal.slice_bounds-either-end
-slice_bounds-either-end c = 
+slice_bounds-either-end c =
     sym
     (length-take-le _ _
     (elim c.if-not-verbatim.branch [ then-not-verbatim w ↦ rw (w.n-is, w.room-is) w.put_decoded-n.ensures.count | else-not-verbatim w ↦ omega (arith, w.n-is) ]))
@@ -26,6 +26,6 @@ returns c =
     ∙ ap (lookup_in (core_of c.args.kind))
     (c.either-text.ensures
     ∙ elim c.if-not-verbatim.branch [
-        then-not-verbatim w ↦ text_decoded raw c.args.verbatim written w.if-not-verbatim.true (c.requires.raw_len_bound w.if-not-verbatim.true) (rw (w.n-is, w.room-is) w.put_decoded-n.ensures.text)
+      | then-not-verbatim w ↦ text_decoded raw c.args.verbatim written w.if-not-verbatim.true (c.requires.raw_len_bound w.if-not-verbatim.true) (rw (w.n-is, w.room-is) w.put_decoded-n.ensures.text)
       | else-not-verbatim w ↦ text_raw raw c.args.verbatim written c.requires.verbatim_value w.if-not-verbatim.false
-      ])
+    ])
