@@ -81,7 +81,7 @@ rows_ok t =
     && (all_texts (annotations_of t) && ends_within t.summary.rate)
 
 -- "A table is well formed if it says acceptance, its code is a listed one, channels are 1 to 1,024 and W follows from both, its counts
--- fit the lent rows, T + H + N-as-W = D ≤ 2^48, O + N ≤ 2^64 − 1, rows obey the rules above, and text places end within 61,440"
+-- fit the lent rows, T + H + N·W = D ≤ 2^48, O + N ≤ 2^64 − 1, rows obey the rules above, and text places end within 61,440"
 unfoldable pub well_formed : Table → Bool
 well_formed t = eqb t.summary.refusal 0 && format_ok t.summary && counts_ok t && sizes_ok t && rows_ok t
 
