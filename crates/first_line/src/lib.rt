@@ -18,6 +18,7 @@ const DIGITS: usize = 20;
 pub const LONGEST: usize = DIGITS + 1;
 
 // The first line of an input: digits and a line feed.
+#[tactic(auto, using(crate::proofs::Laws::read_none))]
 pub fn first_line(input: &[u8]) -> FirstLine
     ensures { line_says result ≡ first_line input.now }
 {

@@ -108,6 +108,7 @@ pub(crate) fn fresh_key(
 
 // Keeps the name at a place after the n from base on, where it is not among them and n is below the limit, and counts it;
 // notes it as bad otherwise.
+#[tactic(auto, using(crate::proofs::SeenLaws::name_over))]
 pub(crate) fn keep_name(
     s: &[u8],
     at: usize,

@@ -30,6 +30,7 @@ fn look_up_short(kind: Object, raw: &[u8], verbatim: bool) -> NameLookup
 
 // The field with a name, and how many names were compared. A name with no escape is its own decoded text. Of another name the decoded length
 // comes first: a text longer than all core names is not written to memory.
+#[tactic(auto, using(crate::proofs::NameLaws::none_longer, crate::proofs::DecodedLaws::counted_long, crate::proofs::DecodedLaws::counted_short))]
 pub fn look_up(kind: Object, raw: &[u8]) -> NameLookup
     ensures { result ≡ lookup_answer kind raw.now }
 {

@@ -1,7 +1,7 @@
 use native.Mathlib.Omega.{arith}
 use Prim.Native.Nat.{◌-◌}
 use mathlib.Core.Path.{sym, ◌∙◌}
-use Rattle.first_line.proofs.Laws.{read_begin, read_many, read_over, read_on, read_none, read_other, read_feed}
+use Rattle.first_line.proofs.Laws.{read_begin, read_many, read_over, read_on, read_other, read_feed}
 use Rattle.json_blocks.proofs.ByteLaws.{within_is}
 use Rattle.first_line.proofs.first_line.Goals as goal
 
@@ -29,14 +29,11 @@ overflow_add-n c = let h = within_is _ _ _ (sym c.is_within.ensures ∙ c.if-is_
 pub loop-n-preserved : goal.loop-n-preserved
 loop-n-preserved c = read_on c.args.input.now _ _ c.loop-n.invariant _ c.peek-b.ensures (sym c.is_within.ensures ∙ c.if-is_within.true) (let h = within_is _ _ _ (sym c.is_within.ensures ∙ c.if-is_within.true) in let v = c.loop-n.invariant in omega (arith, h.0, h.1)) c.if-i-ge-DIGITS.false
 
-pub returns-then-i-lt1 : goal.returns-then-i-lt1
-returns-then-i-lt1 c = read_none c.args.input.now _ _ c.loop-n.invariant _ c.peek-b.ensures (sym c.is_within.ensures ∙ c.if-is_within.false) c.if-i-lt1.true
-
 pub overflow_add-result : goal.overflow_add-result
 overflow_add-result c = omega (arith, c.loop-n.invariant)
 
 pub returns-then-b-eq10 : goal.returns-then-b-eq10
-returns-then-b-eq10 c = read_feed c.args.input.now _ _ c.loop-n.invariant _ c.peek-b.ensures (sym c.is_within.ensures ∙ c.if-is_within.false) c.if-i-lt1.false c.if-b-eq10.true
+returns-then-b-eq10 c = read_feed c.args.input.now _ _ c.loop-n.invariant _ c.peek-b.ensures (sym c.is_within.ensures ∙ c.if-is_within.false) (omega arith) c.if-b-eq10.true
 
 pub returns-else-is_within : goal.returns-else-is_within
 returns-else-is_within c = read_other c.args.input.now _ _ c.loop-n.invariant _ c.peek-b.ensures (sym c.is_within.ensures ∙ c.if-is_within.false) c.if-b-eq10.false

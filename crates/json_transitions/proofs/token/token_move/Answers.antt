@@ -94,7 +94,7 @@ returns-in-21 c = rw c.in-21.is c.minus_move.ensures
 
 pub returns-in-22 : goal.returns-in-22
 unfolding token_move token_moves
-returns-in-22 c = rw c.in-22.is c.fraction_move.ensures
+returns-in-22 c = rw c.in-22.is cc
 
 pub returns-in-23 : goal.returns-in-23
 unfolding token_move token_moves
