@@ -3,7 +3,7 @@
 // standard error.
 #![tactic(auto)]
 
-use first_line::{FirstLine, after, first_line};
+use first_line::{after, first_line};
 use limits::Limits;
 use listing_output::{ANNOTATIONS, CAPTURES, print_listing};
 use reader::read;
@@ -16,35 +16,22 @@ const INPUT: usize = first_line::LONGEST + Limits::METADATA + 1;
 fn main(rt: HostRuntime) {
     let mut input = [0u8; INPUT];
     let n = read_full(&mut rt.stdin(), &mut input);
-    if is_short(n) {
-        if is_unread(&mut rt.stdin()) {
-            let _ = rt
-                .stderr()
-                .write_all(b"burst_list: the input could not be read to its end\n");
-            return;
-        }
-    }
-    if run(rt, &input[..n]) {
+    if n < INPUT && is_unread(&mut rt.stdin()) {
+        let _ = rt
+            .stderr()
+            .write_all(b"burst_list: the input could not be read to its end\n");
         return;
     }
-    let _ = rt
-        .stderr()
-        .write_all(b"burst_list: the answer could not be written\n");
-}
-
-// An input of n bytes is no longer than a first line and the longest metadata.
-fn is_short(n: usize) -> bool {
-    let limits = Limits::new();
-    if n < first_line::LONGEST {
-        return true;
+    if !run(rt, &input[..n]) {
+        let _ = rt
+            .stderr()
+            .write_all(b"burst_list: the answer could not be written\n");
     }
-    n - first_line::LONGEST <= limits.metadata
 }
 
 // Answers an input; whether the answer was written.
 fn run(rt: HostRuntime, input: &[u8]) -> bool {
-    let f = first_line(input);
-    let FirstLine::Size(d, at) = f else {
+    let Some((d, at)) = first_line(input) else {
         return refuse(&rt, 1);
     };
     list(rt, after(input, at), d)

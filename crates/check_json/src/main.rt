@@ -2,7 +2,7 @@
 // end or the answer can't be written, it says so on standard error.
 #![tactic(auto)]
 
-use json_judge::{Judged, judge};
+use json_judge::judge;
 use limits::Limits;
 use standard_streams::{is_unread, read_full, refuse};
 
@@ -12,39 +12,26 @@ const ROOM: usize = Limits::METADATA + 1;
 fn main(rt: HostRuntime) {
     let mut room = [0u8; ROOM];
     let n = read_full(&mut rt.stdin(), &mut room);
-    if n < ROOM {
-        if is_unread(&mut rt.stdin()) {
-            let _ = rt
-                .stderr()
-                .write_all(b"check_json: the input could not be read to its end\n");
-            return;
-        }
-    }
-    if run(rt, &room[..n]) {
+    if n < ROOM && is_unread(&mut rt.stdin()) {
+        let _ = rt
+            .stderr()
+            .write_all(b"check_json: the input could not be read to its end\n");
         return;
     }
-    let _ = rt
-        .stderr()
-        .write_all(b"check_json: the answer could not be written\n");
+    if !answer(rt, &room[..n]) {
+        let _ = rt
+            .stderr()
+            .write_all(b"check_json: the answer could not be written\n");
+    }
 }
 
 // Answers a text; whether the answer was written.
-fn run(rt: HostRuntime, text: &[u8]) -> bool {
-    if text.len() == 0 {
-        return refuse(&rt, 1);
-    }
-    let limits = Limits::new();
-    if limits.metadata < text.len() {
-        return refuse(&rt, 1);
-    }
-    answer(rt, text)
-}
-
 fn answer(rt: HostRuntime, text: &[u8]) -> bool {
-    let j = judge(text);
-    match j {
-        Judged::Good => rt.write_all(b"good\n").is_ok(),
-        Judged::NotJson => refuse(&rt, 2),
-        Judged::BadMembers => refuse(&rt, 3),
+    if text.is_empty() || Limits::METADATA < text.len() {
+        return refuse(&rt, 1);
+    }
+    match judge(text) {
+        Ok(()) => rt.write_all(b"good\n").is_ok(),
+        Err(e) => refuse(&rt, e.refusal()),
     }
 }

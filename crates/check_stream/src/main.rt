@@ -4,7 +4,7 @@
 #![tactic(auto)]
 
 use json_automaton::{Control, State};
-use json_judge::{Judged, judge};
+use json_judge::judge;
 use json_stream::{feed, finish, fresh};
 use limits::Limits;
 use standard_streams::{refuse, write_line};
@@ -15,12 +15,11 @@ const ROOM: usize = Limits::METADATA + 1;
 
 fn main(rt: HostRuntime) {
     let mut room = [0u8; ROOM];
-    if run(rt, &mut room) {
-        return;
+    if !run(rt, &mut room) {
+        let _ = rt
+            .stderr()
+            .write_all(b"check_stream: the answer could not be written\n");
     }
-    let _ = rt
-        .stderr()
-        .write_all(b"check_stream: the answer could not be written\n");
 }
 
 // Takes the text into the room, what each read gives as a chunk, and answers it. A text that fills the room is too long, whatever follows.
@@ -29,23 +28,19 @@ fn run(rt: HostRuntime, room: &mut [u8]) -> bool {
     let mut st = fresh();
     let mut n = 0usize;
     while n < room.len() {
-        let r = rt.stdin().read(&mut room[n..]);
-        let Ok(more) = r else {
+        let Ok(more) = rt.stdin().read(&mut room[n..]) else {
             return rt
                 .stderr()
                 .write_all(b"check_stream: the input could not be read to its end\n")
                 .is_ok();
         };
         if more == 0 {
-            return answer(rt, st, &room[0..n]);
+            return answer(rt, st, &room[..n]);
         }
         let end = n + more;
         let f = feed(st, &room[n..end]);
-        if f.lost == 1 {
-            let is_said = say_lost(rt, st, &room[n..end]);
-            if !is_said {
-                return false;
-            }
+        if f.lost == 1 && !say_lost(rt, st, &room[n..end]) {
+            return false;
         }
         st = f.state;
         n = end;
@@ -64,15 +59,12 @@ fn say_lost(rt: HostRuntime, before: State, chunk: &[u8]) -> bool {
 // The byte at which a chunk leaves the text lost: the chunk is fed again, a byte at a time.
 fn lost_at(before: State, chunk: &[u8]) -> usize {
     let mut st = before;
-    let mut i = 0usize;
-    while i < chunk.len() {
-        let next = i + 1;
-        let f = feed(st, &chunk[i..next]);
+    for byte in chunk.chunks(1) {
+        let f = feed(st, byte);
         st = f.state;
         if f.lost == 1 {
             break;
         }
-        i = next;
     }
     st.count
 }
@@ -87,10 +79,8 @@ fn answer(rt: HostRuntime, st: State, text: &[u8]) -> bool {
 }
 
 fn answer_names(rt: HostRuntime, text: &[u8]) -> bool {
-    let j = judge(text);
-    match j {
-        Judged::Good => rt.write_all(b"good\n").is_ok(),
-        Judged::NotJson => refuse(&rt, 2),
-        Judged::BadMembers => refuse(&rt, 3),
+    match judge(text) {
+        Ok(()) => rt.write_all(b"good\n").is_ok(),
+        Err(e) => refuse(&rt, e.refusal()),
     }
 }

@@ -1,22 +1,20 @@
 -- The walks over members and elements with each place computed before it is used. They are the definitions' walks, and a statement
 -- about a text evaluates in few steps.
+use Rattle.json_blocks.specs.declared.Cursor.{Cursor}
+use Rattle.std.specs.Prelude.{Option, None, Some}
 use mathlib.Core.Path.{◌≡◌, refl, sym, ap, ◌∙◌}
 use mathlib.Core.Bool.{Bool, true, false, cond, not, ◌&&◌}
 use mathlib.Core.List.{List, [], map}
-use mathlib.Core.Option.{Option, none}
+use mathlib.Core.Option.{Option as Maybe, none}
 use Prim.Native.Nat.{ℕ, zero, suc, ◌+◌, ◌-◌}
 use Prim.Native.String.{String}
 use lib.ListN.{length}
 use lib.Dec.{eqb, leb, ltb}
 use Rattle.json_blocks.specs.TextBytes.{byte, ascii, skip_blanks, skip_while}
 use Rattle.json_blocks.specs.Group.{colon_at}
-use Rattle.json_blocks.specs.declared.Read.{Read}
-use Rattle.json_blocks.specs.declared.Read.TheVariants as R
 use Rattle.json_grammar.specs.Skip.{skip_string, opens, closes, skip_open_steps, skip_open, token_byte, skip_value}
 use Rattle.json_walk.specs.declared.Member.{Member}
 use Rattle.json_walk.specs.declared.Element.{Element}
-use Rattle.json_walk.specs.declared.MemberStep.TheVariants as M
-use Rattle.json_walk.specs.declared.ElementStep.TheVariants as E
 use Rattle.json_walk.specs.Gather.{GatherStep, found, stop, gather}
 use Rattle.json_walk.specs.Members.{next_item, member_to, member_step, element_step, member_found, element_found, members_at, elements_at}
 use Rattle.json_judge.specs.MemberNames.{bad_array, bad_object, bad_members_at}
@@ -62,24 +60,24 @@ unfolding value_end skip_value skip_open
 value_is s at = rw (open_is (suc (length s)) s 1 (at + 1))
 
 -- ---- members
-abbrev value_to : List ℕ → ℕ → ℕ → Read → GatherStep Member
-value_to s at e (R.To v) = strictly v.at (λ v. strictly (value_end s v) (λ w. strictly (next_item s w) (λ j. found (record { name = at + 1; quote = e - 1; value = v; end = w }) j)))
-value_to s at e R.Bad = stop
+abbrev value_to : List ℕ → ℕ → ℕ → Option Cursor → GatherStep Member
+value_to s at e (Some v) = strictly v.at (λ v. strictly (value_end s v) (λ w. strictly (next_item s w) (λ j. found (record { name = at + 1; quote = e - 1; value = v; end = w }) j)))
+value_to s at e None = stop
 
 unfoldable pub next_member : List ℕ → ℕ → GatherStep Member
 next_member s at = strictly at (λ i. cond (eqb (byte s i) 0x22) (strictly (skip_string s (i + 1)) (λ e. value_to s i e (colon_at s e))) stop)
 
-value_to_lem : (s : List ℕ) (at e : ℕ) (r : Read) → value_to s at e r ≡ member_found (member_to s at e r)
-value_to_lem s at e (R.To v) =
+value_to_lem : (s : List ℕ) (at e : ℕ) (r : Option Cursor) → value_to s at e r ≡ member_found (member_to s at e r)
+value_to_lem s at e (Some v) =
     strictly_is v.at _ ∙ strictly_is (value_end s v.at) _ ∙ strictly_is (next_item s (value_end s v.at)) _ ∙ rw (value_is s v.at)
-value_to_lem s at e R.Bad = refl
+value_to_lem s at e None = refl
 
 member_is : (s : List ℕ) (at : ℕ) → next_member s at ≡ member_found (member_step s at)
 unfolding next_member member_step
 member_is s at = strictly_is at _ ∙ go (eqb (byte s at) 0x22)
   where
     go : (b : Bool) → cond b (strictly (skip_string s (at + 1)) (λ e. value_to s at e (colon_at s e))) stop
-        ≡ member_found (cond b (member_to s at (skip_string s (at + 1)) (colon_at s (skip_string s (at + 1)))) M.End)
+        ≡ member_found (cond b (member_to s at (skip_string s (at + 1)) (colon_at s (skip_string s (at + 1)))) None)
     go true = strictly_is (skip_string s (at + 1)) _ ∙ value_to_lem s at (skip_string s (at + 1)) (colon_at s (skip_string s (at + 1)))
     go false = refl
 
@@ -92,7 +90,7 @@ unfolding next_element element_step
 element_is s at = strictly_is at _ ∙ strictly_is (value_end s at) _ ∙ rw (value_is s at) (go (ltb at (skip_value s at)))
   where
     go : (b : Bool) → cond b (strictly (next_item s (skip_value s at)) (λ j. found (record { at = at; end = skip_value s at }) j)) stop
-        ≡ element_found (cond b (E.Found (record { at = at; end = skip_value s at }) (next_item s (skip_value s at))) E.End)
+        ≡ element_found (cond b (Some ((record { at = at; end = skip_value s at }), (next_item s (skip_value s at)))) None)
     go true = strictly_is (next_item s (skip_value s at)) _
     go false = refl
 
@@ -119,13 +117,13 @@ module _ (s : List ℕ) (ms : ℕ → List Member) (es : ℕ → List Element) w
       cond (eqb (byte s at) 0x5B) (bad_array (bad_by d) (es at))
       (cond (eqb (byte s at) 0x7B) (bad_object (bad_by d) s (ms at)) false)
 
-  abbrev named_by : String → Option Value
+  abbrev named_by : String → Maybe Value
   named_by n = named_from (ascii n) none (map (field_of s) (ms (top_at s)))
 
-  abbrev elements_by : Option Value → List Element
+  abbrev elements_by : Maybe Value → List Element
   elements_by v = given [] (λ v. es v.at) v
 
-  abbrev listing_by : Option Value → Bool
+  abbrev listing_by : Maybe Value → Bool
   listing_by v = given false (λ v. is_array s v.at) v && all_objects s (elements_by v)
 
   unfoldable pub misshapen_by : Bool
@@ -133,7 +131,7 @@ module _ (s : List ℕ) (ms : ℕ → List Member) (es : ℕ → List Element) w
       not (is_object s (top_at s) && (given false (λ v. is_object s v.at) (named_by "global")
       && (listing_by (named_by "captures") && listing_by (named_by "annotations"))))
 
-  abbrev objects_by : Option Value → List (List Field)
+  abbrev objects_by : Maybe Value → List (List Field)
   objects_by v = map (λ e. map (field_of s) (ms e.at)) (elements_by v)
 
   unfoldable pub file_by : File

@@ -1,4 +1,5 @@
 -- The P lines hold of the definitions.
+use Rattle.std.specs.Prelude.{Some}
 use Prim.Native.Nat.{ℕ}
 use mathlib.Core.Path.{◌≡◌, refl, ap, ◌∙◌}
 use mathlib.Core.Bool.{Bool, true, false, cond, ◌||◌}
@@ -39,7 +40,6 @@ use Rattle.table.specs.Samples.{header_sum, headers_to, place as placeTable, nex
 use Rattle.table_cuts.specs.Cut.{kept, cut_summary, cut, cut_answer}
 use Rattle.table_pieces.specs.Pieces.{put, runs, inside, pieces_answer}
 use Rattle.reader_layout.specs.Layout.{Contents, sample_rules, summary_or, captures_in, annotations_in, samples_in, unordered, not_whole, index_outside, summary_in, too_many}
-use Rattle.table.specs.declared.Count.TheVariants as C
 use Rattle.sigmf_objects.specs.Fields.{last_where, misnamed, missing_from, mistyped}
 use Rattle.sigmf_objects.specs.Capture.{bad_datetime}
 use Rattle.sigmf_objects.specs.Global.{other_version, other_datatype, bad_channels, bad_extension, needs_extension, no_dataset}
@@ -100,7 +100,7 @@ abbrev recording : ℕ → ℕ → Contents
 recording n label = record {
   globals = record { datatype = 16; channels = 1; offset = 0; trailing = 0; rate = record { at = 0; len = 0 } };
   captures = record { start = 0; header = 0 } ∷ record { start = 10; header = 8 } ∷ [];
-  annotations = record { start = 4; count = C.Given n; texts = record { label = record { at = label; len = 29 } } } ∷ [];
+  annotations = record { start = 4; count = Some n; texts = record { label = record { at = label; len = 29 } } } ∷ [];
 }
 
 -- the texts of the P lines

@@ -1,4 +1,5 @@
 -- Refusals 5 to 14 and the numbers of the table over the derivation: of one object's members.
+use Rattle.std.specs.Prelude.{None, Some}
 use mathlib.Core.Path.{◌≡◌, refl, sym, ap, subst, ◌∙◌}
 use mathlib.Core.Bool.{Bool, true, false, cond, not, ◌||◌, false≢true}
 use mathlib.Core.List.{List, [], ◌∷◌, map}
@@ -24,7 +25,6 @@ use Rattle.sigmf_texts.proofs.LookupLaws.{index_same}
 use Rattle.sigmf_values.specs.declared.FieldType.{FieldType}
 use Rattle.sigmf_values.specs.declared.FieldType.TheVariants as T
 use Rattle.sigmf_names.specs.Names.{Core, global_fields, capture_fields, annotation_fields, core_name, other_field, core_at, type_at}
-use Rattle.table.specs.declared.Count.TheVariants as C
 use Rattle.table.specs.Place.{nowhere}
 use Rattle.sigmf_objects.specs.Fields as O
 use Rattle.sigmf_objects.specs.Global as OG
@@ -165,9 +165,9 @@ pub uint_given : (z : ℕ) (v : Option Node) → O.uint_or z (as_value v) ≡ D.
 uint_given z none = refl
 uint_given z (some n) = number_derived n.depth n.bytes n.value
 
-count_given_lem : (v : Option Node) → OA.count_in (as_value v) ≡ given C.Absent (λ n. C.Given (given 0 (λ k. k) (uint (kind n)))) v
+count_given_lem : (v : Option Node) → OA.count_in (as_value v) ≡ given None (λ n. Some (given 0 (λ k. k) (uint (kind n)))) v
 count_given_lem none = refl
-count_given_lem (some n) = ap C.Given (number_derived n.depth n.bytes n.value)
+count_given_lem (some n) = ap Some (number_derived n.depth n.bytes n.value)
 
 -- ---- 8 to 11, 14, and the numbers: of the members es of global, where 7 does not hold
 module _ (es : List Entry) (ok : mistyped global_fields es ≡ false) where

@@ -1,4 +1,5 @@
 -- The members and elements found in a text are those of its derivation, places included.
+use Rattle.std.specs.Prelude.{Some}
 use mathlib.Core.Path.{◌≡◌, refl, sym, ap, ◌∙◌}
 use mathlib.Core.Bool.{false}
 use mathlib.Core.List.{List, [], ◌∷◌, ◌++◌}
@@ -9,7 +10,6 @@ use borrow.Author.Tests.{eq-eqb}
 use Rattle.json_blocks.specs.TextBytes.{byte, to, blank, skip_blanks}
 use Rattle.json_blocks.specs.Group.{colon_at}
 use Rattle.json_blocks.specs.declared.Cursor.{Cursor}
-use Rattle.json_blocks.specs.declared.Read.TheVariants as R
 use Rattle.json_grammar.specs.Grammar.{Blank, space, tab, line_feed, carriage_return, Blanks, string, Items, last, more, Group, empty, full, Member, member, Array, Object, Value}
 use Rattle.json_grammar.specs.Skip.{token_byte, skip_string, skip_value}
 use Rattle.json_grammar.specs.Stands.{Stands}
@@ -93,7 +93,7 @@ value_some : (d : ℕ) (x : List ℕ) → Value d x → 0 < length x
 value_some d [] p = absurd (omega (arith, (value_first d p (stands_none [] 0)).solid))
 value_some d (b ∷ x) p = omega arith
 
-span_is : (s : List ℕ) (i : ℕ) (q : byte s i ≡ 0x22) (e v : Cursor) → skip_string s (i + 1) ≡ e.at → colon_at s e.at ≡ R.To v → (w : ℕ) → skip_value s v.at ≡ w
+span_is : (s : List ℕ) (i : ℕ) (q : byte s i ≡ 0x22) (e v : Cursor) → skip_string s (i + 1) ≡ e.at → colon_at s e.at ≡ Some v → (w : ℕ) → skip_value s v.at ≡ w
     → {o m k : ℕ} → e.at - 1 ≡ o → v.at ≡ m → w ≡ k
     → members_from s i ≡ record { name = i + 1; quote = o; value = m; end = k } ∷ members_from s (next_item s w)
 span_is s i q e v es ec w ew a b c = members_more s i q e v es ec w ew ∙ rw (a, b, c)

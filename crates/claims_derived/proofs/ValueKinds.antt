@@ -1,8 +1,9 @@
 -- What is judged on a value's bytes is what its derivation says: its type, its number, its text.
+use Rattle.std.specs.Prelude.{Option, None, Some}
 use mathlib.Core.Path.{◌≡◌, refl, sym, ap, ◌∙◌}
 use mathlib.Core.Bool.{Bool, true, false, cond, false≢true}
 use mathlib.Core.List.{List, [], ◌∷◌, ◌++◌, append-nil}
-use mathlib.Core.Option.{Option, none, some}
+use mathlib.Core.Option.{Option as Maybe, none, some}
 use Prim.Native.Nat.{ℕ, zero, suc, ◌+◌, ◌-◌, ◌^◌}
 use native.Mathlib.Omega.{arith}
 use lib.ListN.{length}
@@ -23,8 +24,6 @@ use Rattle.json_strings.specs.Utf8 as U8
 use Rattle.json_strings.specs.Meaning as Y
 use Rattle.json_strings.specs.Meaning.{Letter, Meaning, Means}
 use Rattle.json_strings.proofs.Theorem.{means_decoded, decoded_local}
-use Rattle.sigmf_values.specs.declared.Uint.{Uint}
-use Rattle.sigmf_values.specs.declared.Uint.TheVariants as U
 use Rattle.sigmf_values.specs.declared.FieldType.{FieldType}
 use Rattle.sigmf_values.specs.declared.FieldType.TheVariants as T
 use Rattle.sigmf_values.specs.Values.{is_uint, uint_of, has_type, is_true as isTrueByte}
@@ -62,21 +61,21 @@ pub meant_decoded : {cs : List ℕ} (p : Characters cs) → decoded_from cs 0 �
 meant_decoded p = means_decoded (meant_means p)
 
 -- ---- the number of a uint
-abbrev pub uint_by : Option ℕ → Uint
-uint_by none = U.Bad
-uint_by (some n) = U.Value n
+abbrev pub uint_by : Maybe ℕ → Option ℕ
+uint_by none = None
+uint_by (some n) = Some n
 
 some_bytes : (b : ℕ) (l : List ℕ) → eqb (length (b ∷ l)) 0 ≡ false
 some_bytes b l = ne_eqb (length (b ∷ l)) 0 (λ z. omega arith)
 
 module _ (b : ℕ) (l : List ℕ) where
   -- bytes that begin with no digit
-  no_uint : digit b ≡ false → (b ≡ 0x30 → ⊥) → uint_of (b ∷ l) ≡ U.Bad
+  no_uint : digit b ≡ false → (b ≡ 0x30 → ⊥) → uint_of (b ∷ l) ≡ None
   unfolding uint_of is_uint all
   no_uint e h = rw (some_bytes b l, ne_eqb b 0x30 h, e)
 
   -- a 0 before another byte
-  not_alone : uint_of (0x30 ∷ (b ∷ l)) ≡ U.Bad
+  not_alone : uint_of (0x30 ∷ (b ∷ l)) ≡ None
   unfolding uint_of is_uint
   not_alone = rw (some_bytes 0x30 (b ∷ l), lt-ltb 1 (suc (suc (length l))) (omega arith))
 
@@ -94,11 +93,11 @@ module _ (b : ℕ) (ds : List ℕ) (h : G.Between 0x31 0x39 b) (p : Digits ds) w
   whole_uint : uint_of (b ∷ ds) ≡ uint_by (small (number_from 0 (b ∷ ds)))
   unfolding uint_of is_uint all
   whole_uint = rw (some_bytes b ds, ne_eqb b 0x30 (λ z. omega arith), is_between {lo = 0x30} {hi = 0x39} {b = b} (omega arith), digits_all p) (go (ltb (number_from 0 (b ∷ ds)) (2 ^ 64))) where
-    go : (t : Bool) → cond t (U.Value (number_from 0 (b ∷ ds))) U.Bad ≡ uint_by (cond t (some (number_from 0 (b ∷ ds))) none)
+    go : (t : Bool) → cond t (Some (number_from 0 (b ∷ ds))) None ≡ uint_by (cond t (some (number_from 0 (b ∷ ds))) none)
     go true = refl
     go false = refl
 
-  more_uint : (c : ℕ) (r : List ℕ) → digit c ≡ false → uint_of (b ∷ (ds ++ (c ∷ r))) ≡ U.Bad
+  more_uint : (c : ℕ) (r : List ℕ) → digit c ≡ false → uint_of (b ∷ (ds ++ (c ∷ r))) ≡ None
   unfolding uint_of is_uint all
   more_uint c r e = rw (some_bytes b (ds ++ (c ∷ r)), ne_eqb b 0x30 (λ z. omega arith), is_between {lo = 0x30} {hi = 0x39} {b = b} (omega arith), digits_not c r p e)
 
@@ -116,7 +115,7 @@ number_uint (G.number {e} G.no_minus (G.leading {b} {ds} h p) (G.fraction {b = c
 
 -- ---- any value
 module _ {A B : List ℕ → Type 0} (arrays : (x : List ℕ) → A x → byte x 0 ≡ 0x5B) (objects : (x : List ℕ) → B x → byte x 0 ≡ 0x7B) where
-  uint_other : (x : List ℕ) (b : ℕ) → byte x 0 ≡ b → digit b ≡ false → (b ≡ 0x30 → ⊥) → uint_of x ≡ U.Bad
+  uint_other : (x : List ℕ) (b : ℕ) → byte x 0 ≡ b → digit b ≡ false → (b ≡ 0x30 → ⊥) → uint_of x ≡ None
   unfolding uint_of is_uint
   uint_other [] b e f h = refl
   uint_other (c ∷ x) b e f h = no_uint c x (rw e f) (rw e h)
@@ -131,7 +130,7 @@ module _ {A B : List ℕ → Type 0} (arrays : (x : List ℕ) → A x → byte x
   uint_any {x} G.a_false = uint_other x 0x66 refl refl (λ z. omega arith)
   uint_any {x} G.a_null = uint_other x 0x6E refl refl (λ z. omega arith)
 
-  is_value_lem : (w : Option ℕ) → is_value (uint_by w) ≡ present w
+  is_value_lem : (w : Maybe ℕ) → is_value (uint_by w) ≡ present w
   is_value_lem none = refl
   is_value_lem (some n) = refl
 
@@ -233,6 +232,6 @@ module _ where
 -- the number itself
 pub number_derived : (d : ℕ) (x : List ℕ) (v : Value d x) → uint_number (uint_of x) ≡ given 0 (λ k. k) (uint (kind_in d x v))
 number_derived d x v = ap uint_number (uint_derived d x v) ∙ go (uint (kind_in d x v)) where
-  go : (w : Option ℕ) → uint_number (uint_by w) ≡ given 0 (λ k. k) w
+  go : (w : Maybe ℕ) → uint_number (uint_by w) ≡ given 0 (λ k. k) w
   go none = refl
   go (some n) = refl

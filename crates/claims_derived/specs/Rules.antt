@@ -1,5 +1,5 @@
 -- Document 01's refusals 3 to 17, 9 with request P4's list and 13 as request P3 amends it, and the numbers of the table, said of a derivation t of the text by ECMA-404's grammar.
-use Rattle.std.specs.Prelude.{Bool, true, false, cond, not, ◌&&◌, ◌||◌, List, [], ◌∷◌, map, ℕ, zero, suc, ◌+◌, ◌-◌, ◌^◌, length, eqb, ltb}
+use Rattle.std.specs.Prelude.{Bool, true, false, cond, not, ◌&&◌, ◌||◌, List, [], ◌∷◌, map, ℕ, zero, suc, ◌+◌, ◌-◌, ◌^◌, length, eqb, ltb, None, Some}
 use Rattle.std.proofs.Math.Option.{Option, none, some}
 use Prim.Native.String.{String}
 use Rattle.limits.specs.Limits.{nesting, channels}
@@ -26,7 +26,6 @@ use Rattle.table.specs.declared.Globals.{Globals}
 use Rattle.table.specs.Place.{nowhere}
 use Rattle.table.specs.declared.CaptureEntry.{CaptureEntry}
 use Rattle.table.specs.declared.AnnotationEntry.{AnnotationEntry}
-use Rattle.table.specs.declared.Count.TheVariants as C
 use Rattle.reader_layout.specs.Layout.{Contents, unordered, not_whole, index_outside}
 use Rattle.sigmf_objects.specs.Capture.{is_none}
 use Rattle.sigmf_extensions.specs.Extensions.{is_malformed, is_needed}
@@ -212,7 +211,7 @@ text_place n = record { at = n.at + 1; len = length n.bytes - 2 }
 abbrev pub annotation_in : List Entry → AnnotationEntry
 annotation_in a = record {
   start = uint_or 0 (value "core:sample_start" a);
-  count = given C.Absent (λ n. C.Given (given 0 (λ k. k) (uint (kind n)))) (value "core:sample_count" a);
+  count = given None (λ n. Some (given 0 (λ k. k) (uint (kind n)))) (value "core:sample_count" a);
   texts = record { label = given nowhere text_place (value "core:label" a) };
 }
 

@@ -1,4 +1,5 @@
 -- What the rules say of the members that are written, by their names and kinds.
+use Rattle.std.specs.Prelude.{Some}
 use mathlib.Core.Path.{◌≡◌}
 use mathlib.Core.Bool.{false, not}
 use mathlib.Core.List.{List, [], ◌∷◌, map}
@@ -16,7 +17,6 @@ use Rattle.sigmf_texts.specs.Form.{form_ok, namespace_of, after_colon, namespace
 use Rattle.sigmf_names.specs.Names.{global_fields, capture_fields, annotation_fields, core_at, type_at}
 use Rattle.table.specs.declared.Place.{Place}
 use Rattle.table.specs.Place.{nowhere}
-use Rattle.table.specs.declared.Count.TheVariants as C
 use Rattle.claims_derived.specs.Derived.{Kind, number, text, Node, Entry, node_members, node_elements}
 use Rattle.claims_derived.specs.Rules.{value_from, is_a, uint, text_in, bad_node, misnamed, missing, mistyped, bad_datetime, capture_in, annotation_in, globals_in, number_place, text_place}
 use Rattle.claims_derived.specs.Rules as D
@@ -76,7 +76,7 @@ pub record GoodNote (start count : ℕ) (label : Place) (es : List Entry) : Type
   pub formed : misnamed es ≡ false
   pub whole : missing annotation_fields es ≡ false
   pub typed : mistyped annotation_fields es ≡ false
-  pub said : annotation_in es ≡ record { start = start; count = C.Given count; texts = record { label = label } }
+  pub said : annotation_in es ≡ record { start = start; count = Some count; texts = record { label = label } }
 
 module _ (e f : Entry) (a b : ℕ) (p : Has (ascii "core:sample_start") (Whole a) e) (q : Has (ascii "core:sample_count") (Whole b) f)
     (x : a < 2 ^ 64) (y : b < 2 ^ 64) where

@@ -1,4 +1,6 @@
 -- The writer's test of a sample rate is the grammar's number.
+use Rattle.json_blocks.specs.declared.Cursor.{Cursor}
+use Rattle.std.specs.Prelude.{None, Option, Some}
 use mathlib.Core.Path.{◌≡◌, refl, sym, ap, subst, ◌∙◌}
 use mathlib.Core.Logic.{◌↔◌}
 use mathlib.Core.Bool.{true, false≢true}
@@ -9,8 +11,6 @@ use lib.ListN.{length, take, get_or-eq_default}
 use lib.Seq.{take_at}
 use borrow.Author.Tests.{eqb-true, eq-eqb}
 use Rattle.json_blocks.specs.TextBytes.{byte}
-use Rattle.json_blocks.specs.declared.Read.{Read}
-use Rattle.json_blocks.specs.declared.Read.TheVariants as R
 use Rattle.json_tokens.specs.Number.{number_at}
 use Rattle.json_grammar.specs.Grammar.{Number}
 use Rattle.json_grammar.proofs.Derived.{Derived, derived, Got, got_is, stands_all}
@@ -28,9 +28,9 @@ is_number_lem x e = go (number_at x 0) (number_sound x 0) e where
         all_of : (l : List ℕ) → part_of l 0 (length l) ≡ l
         all_of l = ap (take (length l - 0)) (sym (append-nil l)) ∙ take_at l [] (length l - 0) (omega arith)
 
-  go : (r : Read) → Got (Derived Number x 0) r → got_to (length x) r ≡ true → Number x
-  go (R.To c) g h = whole (eqb-true c.at (length x) h) (got_is g)
-  go R.Bad g h = absurd (false≢true h)
+  go : (r : Option Cursor) → Got (Derived Number x 0) r → got_to (length x) r ≡ true → Number x
+  go (Some c) g h = whole (eqb-true c.at (length x) h) (got_is g)
+  go None g h = absurd (false≢true h)
 
 pub number_is : {x : List ℕ} → Number x → is_number x ≡ true
 unfolding is_number

@@ -1,4 +1,5 @@
 -- The rows of a well-formed table, laid out again from what is written of them.
+use Rattle.std.specs.Prelude.{Some}
 use mathlib.Core.Path.{◌≡◌, refl, sym, ap, ◌∙◌}
 use mathlib.Core.Bool.{true, ◌&&◌}
 use mathlib.Core.List.{List, [], ◌∷◌, map}
@@ -11,7 +12,6 @@ use Rattle.table.specs.declared.Capture.{Capture}
 use Rattle.table.specs.declared.Annotation.{Annotation}
 use Rattle.table.specs.declared.CaptureEntry.{CaptureEntry}
 use Rattle.table.specs.declared.AnnotationEntry.{AnnotationEntry}
-use Rattle.table.specs.declared.Count.TheVariants as C
 use Rattle.table.specs.Samples.{header_sum, capture_rows, note_end, annotation_row, ascending_from, ascending, start_ok, all_entries, all_notes}
 use Rattle.table.specs.Table.{own_entries, like_capture, all_like, captures_obey}
 use Rattle.table.specs.Judge.{captures_ok, annotations_ok}
@@ -63,7 +63,7 @@ module _ (o e w : ℕ) (rs : List Capture) (q : captures_ok o e w o 0 rs ≡ tru
 -- what is read of an annotation, s being the first text and w the one written
 pub record NoteRead (s w : List ℕ) (r : Annotation) (a : AnnotationEntry) : Type 0 where
   pub start : a.start ≡ r.start
-  pub count : a.count ≡ C.Given (r.end - r.start)
+  pub count : a.count ≡ Some (r.end - r.start)
   pub label : SameText s r.texts.label w a.texts.label
 
 module _ (s w : List ℕ) where

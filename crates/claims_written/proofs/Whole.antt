@@ -18,7 +18,7 @@ use Rattle.refusals.proofs.RuleLaws.{skip}
 use Rattle.table.specs.declared.Globals.{Globals}
 use Rattle.table.specs.Table.{own_entry}
 use Rattle.table.specs.declared.AnnotationEntry.{AnnotationEntry}
-use Rattle.table.specs.declared.Count.TheVariants as C
+use Rattle.std.specs.Prelude.{Some as Given}
 use Rattle.reader_layout.specs.Layout.{sample_rules}
 use Rattle.json_walk.specs.declared.Member.{Member as Span}
 use Rattle.json_walk.specs.declared.Element.{Element}
@@ -68,7 +68,7 @@ module _ {A : Type 0} {R : A → Node → Type 0} where
 -- what an annotation's entry gives back, w being the text
 pub record NoteBack (w : List ℕ) (r : Note) (a : AnnotationEntry) : Type 0 where
   pub start : a.start ≡ r.start
-  pub count : a.count ≡ C.Given r.count
+  pub count : a.count ≡ Given r.count
   pub label : Back w a.texts.label r.label
 
 note_back : (w : List ℕ) (r : Note) (n : Node) → NoteNode r n → Here w n → NoteBack w r (annotation_in (node_members n))

@@ -6,42 +6,34 @@ use native.Mathlib.Omega.{arith}
 use lib.ListN.{length, get_or, take, drop, set, length-append, length-set, take-append-drop}
 use lib.Seq.{take_at, drop_at, take-take, take-length, drop-length, length-take-le, set_split, take-append-le, drop-cons, get_or_at, get_or-take}
 use Rattle.table.specs.Memory.{written}
-use Rattle.output.specs.Put.{put_count, put_front}
-use Rattle.output.proofs.Writing.{Parts, parts_of, Writes, writes_first, writes_next, writes_end, tail, rejoined, put_all, put_some, put_none}
 use Rattle.decimal.specs.Decimal.{digits_of, field}
 use Rattle.decimal.proofs.Digits.{digits_small, digits_large, digits_some, digits_most}
 
-one_digit : (m : ℕ) → m < 10 → length (digits_of m) ≡ 1
+-- ---- how many digits a number below 10000 has
+pub one_digit : (m : ℕ) → m < 10 → length (digits_of m) ≡ 1
 one_digit m h = ap length (digits_small m h)
 
 one_more_lem : (m : ℕ) → 10 ≤ m → length (digits_of m) ≡ length (digits_of (m / 10)) + 1
 one_more_lem m h = ap length (digits_large m h) ∙ length-append (digits_of (m / 10)) ((0x30 + m % 10) ∷ [])
 
--- ---- counting: c digits were passed, less one, and m is left
-module _ (n m c : ℕ) (e : c + length (digits_of m) ≡ 1 + length (digits_of n)) where
-  pub count_on : 10000 ≤ m → (c + 4) + length (digits_of (m / 10000)) ≡ 1 + length (digits_of n)
+pub two_digits : (m : ℕ) → 10 ≤ m → m < 100 → length (digits_of m) ≡ 2
+two_digits m l h = omega (arith, one_more_lem m l, one_digit (m / 10) (omega arith))
+
+pub three_digits : (m : ℕ) → 100 ≤ m → m < 1000 → length (digits_of m) ≡ 3
+three_digits m l h = omega (arith, one_more_lem m (omega arith), two_digits (m / 10) (omega arith) (omega arith))
+
+pub four_digits : (m : ℕ) → 1000 ≤ m → m < 10000 → length (digits_of m) ≡ 4
+four_digits m l h = omega (arith, one_more_lem m (omega arith), three_digits (m / 10) (omega arith) (omega arith))
+
+-- ---- counting: c digits were passed, and m is left
+module _ (n m c : ℕ) (e : c + length (digits_of m) ≡ length (digits_of n)) where
+  pub count_on : 10000 ≤ m → (c + 4) + length (digits_of (m / 10000)) ≡ length (digits_of n)
   count_on h =
       let q : m / 10 / 10 / 10 / 10 ≡ m / 10000 = omega arith in
       rw (sym q) (omega (arith, e, one_more_lem m (omega arith), one_more_lem (m / 10) (omega arith), one_more_lem (m / 10 / 10) (omega arith), one_more_lem (m / 10 / 10 / 10) (omega arith)))
 
-  module _ (f : n < 2 ^ 64) where
-    pub count_room : c + 4 < 2 ^ 64
-    count_room = omega (arith, e, digits_some m, digits_most n f)
-
-    most : (r : ℕ) → r ≡ length (digits_of n) → (r ≡ length (digits_of n)) × (r ≤ 20)
-    most r q = (q, omega (arith, q, digits_most n f))
-
-    pub count_1 : m < 10 → (c ≡ length (digits_of n)) × (c ≤ 20)
-    count_1 h = most c (omega (arith, e, one_digit m h))
-
-    pub count_2 : 10 ≤ m → m < 100 → (c + 1 ≡ length (digits_of n)) × (c + 1 ≤ 20)
-    count_2 l h = most (c + 1) (omega (arith, e, one_more_lem m l, one_digit (m / 10) (omega arith)))
-
-    pub count_3 : 100 ≤ m → m < 1000 → (c + 2 ≡ length (digits_of n)) × (c + 2 ≤ 20)
-    count_3 l h = most (c + 2) (omega (arith, e, one_more_lem m (omega arith), one_more_lem (m / 10) (omega arith), one_digit (m / 10 / 10) (omega arith)))
-
-    pub count_4 : 1000 ≤ m → m < 10000 → (c + 3 ≡ length (digits_of n)) × (c + 3 ≤ 20)
-    count_4 l h = most (c + 3) (omega (arith, e, one_more_lem m (omega arith), one_more_lem (m / 10) (omega arith), one_more_lem (m / 10 / 10) (omega arith), one_digit (m / 10 / 10 / 10) (omega arith)))
+  pub count_most : n < 2 ^ 64 → c < 20
+  count_most f = omega (arith, e, digits_some m, digits_most n f)
 
 -- ---- writing from the last digit: those of D past place i are written, m has the others
 pub record Back (n : ℕ) (out₀ out : List ℕ) (m i : ℕ) : Type 0 where
@@ -153,31 +145,7 @@ module _ (n : ℕ) (out₀ out : List ℕ) (m i : ℕ) (S : Back n out₀ out m 
     pub two_end : (f : ℕ) → m < 100 → f ≡ 0x30 + m / 10 % 10 → set (set out i d) (i - 1) f ≡ written (digits_of n) out₀
     two_end f l y = back_end n out₀ (set out i d) (m / 10) (i - 1) next f (omega arith) y
 
--- ---- a word of w bytes and a number of c digits
-pub field_parts : (word : List ℕ) (n : ℕ) → Parts (field word n) (word ∷ digits_of n ∷ [])
-unfolding field
-field_parts word n = parts_of word (digits_of n ∷ [])
-
+-- ---- a word and a number
 pub field_long : (word : List ℕ) (n : ℕ) → length (field word n) ≡ length word + length (digits_of n)
 unfolding field
 field_long word n = length-append word (digits_of n)
-
-module _ (word out : List ℕ) (n c : ℕ) (e : c ≡ length (digits_of n)) where
-  pub word_over : length out < length word → (0 ≡ put_count (field word n) out) × (out ≡ put_front (field word n) out)
-  word_over h = put_none (field word n) out (length (field word n)) refl (omega (arith, field_long word n))
-
-  pub field_over : length out - length word < c → (0 ≡ put_count (field word n) out) × (out ≡ put_front (field word n) out)
-  field_over h = put_none (field word n) out (length (field word n)) refl (omega (arith, field_long word n))
-
-  module _ (h : length word ≤ length out) (q : c ≤ length out - length word) where
-    field_room : length (field word n) ≤ length out
-    field_room = omega (arith, field_long word n)
-
-    -- the memory with the word, then with the digits in its rest
-    module _ {mid : List ℕ} (z : mid ≡ put_front word out) where
-      word_put : Writes (field word n) out mid (length word) (digits_of n ∷ [])
-      word_put = writes_first out (field_parts word n) field_room (refl, (put_all word out h (refl, z)).1)
-
-      pub field_put : {new : List ℕ} → new ≡ written (digits_of n) (tail mid (length word))
-          → (length word + c ≡ put_count (field word n) out) × (rejoined mid (length word) new ≡ put_front (field word n) out)
-      field_put w = put_some (field word n) out field_room (writes_end (writes_next word_put (e, w)))

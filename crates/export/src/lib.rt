@@ -11,7 +11,6 @@ ghost use Rattle.table_cuts.specs.Cut.{cut_answer, cut_capture_memory, cut_annot
 ghost use Rattle.table_pieces.specs.Copy.{copy_answer, copy_memory};
 ghost use Rattle.reader.specs.Reading.{read_answer, captures_read, annotations_read};
 
-use json_judge::Judged;
 use table::{Located, Summary, Wrote};
 
 // Document 01's number of a text: 0, or refusal 2 or 3.
@@ -19,11 +18,9 @@ use table::{Located, Summary, Wrote};
 pub extern "C" fn json_judge(text: &[u8]) -> u32
     ensures { result ≡ lowest (judge_rules text.now) }
 {
-    let j = json_judge::judge(text);
-    match j {
-        Judged::Good => 0,
-        Judged::NotJson => 2,
-        Judged::BadMembers => 3,
+    match json_judge::judge(text) {
+        Ok(()) => 0,
+        Err(e) => e.refusal() as u32,
     }
 }
 

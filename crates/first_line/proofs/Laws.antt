@@ -5,10 +5,11 @@ use mathlib.Core.Bool.{Bool, true, false, ◌&&◌}
 use mathlib.Core.List.{List, [], ◌∷◌}
 use native.Mathlib.Omega.{arith}
 use native.Mathlib.Numerals.{add-one}
-use lib.ListN.{length, take, drop, drop_of_length-le, length-take, length-drop}
-use lib.Seq.{drop-cons, drop-length, get_or-take, take_all, take-nil}
+use lib.ListN.{take, drop, drop_of_length-le, length-take}
+use lib.Seq.{drop-cons, get_or-take}
 use lib.Dec.{eqb}
 use borrow.Author.Tests.{le-leb, lt-leb, eq-eqb, ne_eqb}
+use Rattle.std.proofs.lemmas.Bool.Decides.{nat_tests}
 use Rattle.json_blocks.specs.TextBytes.{byte, within}
 use Rattle.json_blocks.specs.Lists.{number_from}
 use Rattle.json_tokens.specs.Number.{digit, skip_digits}
@@ -16,6 +17,19 @@ use Rattle.json_blocks.proofs.ByteLaws.{within_above, good_inside, skip_on, skip
 use Rattle.json_tokens.proofs.NumberLaws.{no_digit}
 use Rattle.refusals.specs.Answer.{accepted, refused}
 use Rattle.first_line.specs.FirstLine.{digit_count, leading_number, is_first_line, line, first_line}
+
+-- ---- digits and other bytes
+pub digit_is : (b : ℕ) → 0x30 ≤ b → b ≤ 0x39 → digit b ≡ true
+unfolding within
+digit_is b l h = grind (arith, nat_tests)
+
+pub digit_below : (b : ℕ) → b < 0x30 → digit b ≡ false
+unfolding within
+digit_below b h = grind (arith, nat_tests)
+
+pub digit_above : (b : ℕ) → 0x39 < b → digit b ≡ false
+unfolding within
+digit_above b h = grind (arith, nat_tests)
 
 and_none : (a : Bool) → a && false ≡ false
 and_none true = refl
@@ -103,10 +117,3 @@ module _ (s : List ℕ) (n i : ℕ) (S : Reading s n i) (b : ℕ) (z : b ≡ byt
         let q : digit_count s ≤ 20 = omega (arith, last_is, S.few) in
         let v : leading_number s ≤ 2 ^ 64 - 1 = omega (arith, number_is, S.small) in
         rw (le-leb _ _ p, le-leb _ _ q, eq-eqb _ _ f, le-leb _ _ v, number_is, last_is)
-
--- ---- what follows a place
-pub after_over : (s : List ℕ) (at : ℕ) → length s ≤ at → take (length s - length s) (drop (length s) s) ≡ drop at s
-after_over s at h = rw (drop-length s, drop_of_length-le s h, take-nil (length s - length s))
-
-pub after_in : (s : List ℕ) (at : ℕ) → take (length s - at) (drop at s) ≡ drop at s
-after_in s at = take_all (length s - at) (drop at s) (omega (arith, length-drop at s))

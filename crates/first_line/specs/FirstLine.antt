@@ -1,12 +1,10 @@
 -- Document 01, "The listing": "The program reads D on standard input's first line (1 to 20 digits and a line feed), then the
 -- metadata; any other first line prints `refused 1`".
-use Rattle.std.specs.Prelude.{ℕ, ◌+◌, ◌-◌, ◌^◌, Bool, ◌&&◌, cond, List, take, leb, eqb}
+use Rattle.std.specs.Prelude.{ℕ, ◌+◌, ◌-◌, ◌^◌, Bool, ◌&&◌, cond, List, take, leb, eqb, None, Option, Some}
 use Rattle.json_blocks.specs.TextBytes.{byte, within}
 use Rattle.json_tokens.specs.Number.{skip_digits}
 use Rattle.refusals.specs.Answer.{Answer, accepted, refused}
 use Rattle.decimal.specs.Decimal.{number_of}
-use Rattle.first_line.specs.declared.FirstLine.{FirstLine}
-use Rattle.first_line.specs.declared.FirstLine.TheVariants.{Size, Other}
 
 -- how many digits the input begins with, and the number that they write
 abbrev pub digit_count : List ℕ → ℕ
@@ -32,6 +30,6 @@ unfoldable pub first_line : List ℕ → Answer Line
 first_line s = cond (is_first_line s) (accepted (line (leading_number s) (digit_count s + 1))) (refused 1)
 
 -- what an answer says
-abbrev pub line_says : FirstLine → Answer Line
-line_says (Size d at) = accepted (line d at)
-line_says Other = refused 1
+abbrev pub line_says : Option (ℕ × ℕ) → Answer Line
+line_says (Some (d, at)) = accepted (line d at)
+line_says None = refused 1

@@ -1,15 +1,8 @@
 // The first line of a program's input, and what follows it.
 #![tactic(auto)]
 
-ghost use Rattle.std.specs.Prelude.{◌≡◌, drop};
+ghost use Rattle.std.specs.Prelude.{◌≡◌, ◌+◌, ◌-◌, ◌*◌, ◌^◌, ◌<◌, ◌≤◌, SomeIff, drop};
 ghost use Rattle.first_line.specs.FirstLine.{first_line, line_says};
-
-// The dataset's length and the place past the line feed, or that the line has another form.
-#[derive(Clone, Copy)]
-pub enum FirstLine {
-    Size(u64, usize),
-    Other,
-}
 
 // The most digits of the line.
 const DIGITS: usize = 20;
@@ -17,44 +10,32 @@ const DIGITS: usize = 20;
 // The bytes of the longest line.
 pub const LONGEST: usize = DIGITS + 1;
 
+// A number with a digit more; None past 64 bits.
+fn with_digit(n: u64, digit: u8) -> Option<u64>
+    requires { 0x30 ≤ digit }
+    ensures { SomeIff result (n * 10 + (digit - 0x30) < 2 ^ 64) (n * 10 + (digit - 0x30)) }
+{
+    n.checked_mul(10)?.checked_add(u64::from(digit - b'0'))
+}
+
 // The first line of an input: digits and a line feed.
-#[tactic(auto, using(crate::proofs::Laws::read_none))]
-pub fn first_line(input: &[u8]) -> FirstLine
+pub fn first_line(input: &[u8]) -> Option<(u64, usize)>
     ensures { line_says result ≡ first_line input.now }
 {
-    let mut n: u64 = 0;
-    let mut i: usize = 0;
-    loop {
-        let b = json_blocks::peek(input, i);
-        if json_blocks::is_within(b'0', b'9', b) {
-            if i >= DIGITS {
-                return FirstLine::Other;
-            }
-            let d = (b - b'0') as u64;
-            if n > (u64::MAX - d) / 10 {
-                return FirstLine::Other;
-            }
-            n = n * 10 + d;
-            i += 1;
-        } else {
-            if i < 1 {
-                return FirstLine::Other;
-            }
-            if b == b'\n' {
-                return FirstLine::Size(n, i + 1);
-            }
-            return FirstLine::Other;
+    let mut n = 0;
+    for (i, b) in input.iter().enumerate() {
+        match *b {
+            b'0'..=b'9' if i < DIGITS => n = with_digit(n, *b)?,
+            b'\n' if i > 0 => return Some((n, i + 1)),
+            _ => return None,
         }
     }
+    None
 }
 
 // What follows a place of the input; past its end nothing.
 pub fn after(input: &[u8], at: usize) -> &[u8]
     ensures { result.now ≡ drop at input.now }
 {
-    let n = input.len();
-    if at >= n {
-        return &input[n..];
-    }
-    &input[at..]
+    &input[at.min(input.len())..]
 }

@@ -1,4 +1,6 @@
 -- Acceptance of what is left of a text from a place on, and its steps.
+use Rattle.json_blocks.specs.declared.Cursor.{Cursor}
+use Rattle.std.specs.Prelude.{None, Option, Some}
 use mathlib.Core.Path.{◌≡◌, refl, sym, ap, ◌∙◌}
 use mathlib.Core.Bool.{Bool, true, false, cond}
 use mathlib.Core.List.{List, [], ◌∷◌}
@@ -11,8 +13,6 @@ use lib.Dec.{eqb, ltb}
 use borrow.Author.Tests.{ne_eqb, lt-ltb, le-ltb, ltb-true, ltb-false}
 use Rattle.json_blocks.specs.Turns.{on, out, after_turn, run_turns, run_text}
 use Rattle.json_blocks.specs.TextBytes.{byte, to, and_then, blank, within, byte_within, skip_turn, skip_while}
-use Rattle.json_blocks.specs.declared.Read.{Read}
-use Rattle.json_blocks.specs.declared.Read.TheVariants.{To, Bad}
 use Rattle.json_blocks.specs.Blocks.{plain_byte}
 use Rattle.json_blocks.proofs.BlockLaws.{plain_is}
 use Rattle.json_blocks.proofs.ByteLaws.{cond_elim, good_inside, skip_pass}
@@ -25,17 +25,17 @@ unfoldable pub accepts_at : List ℕ → Control → ℕ → Bool
 accepts_at s c i = accepting (run_moves c (drop i s))
 
 -- go on where a read got to; no read, no text
-abbrev pub then_at : Read → (ℕ → Bool) → Bool
-then_at (To c) f = f c.at
-then_at Bad f = false
+abbrev pub then_at : Option Cursor → (ℕ → Bool) → Bool
+then_at (Some c) f = f c.at
+then_at None f = false
 
-pub then_then : (r : Read) (f : ℕ → Read) (g : ℕ → Bool) → then_at (and_then r f) g ≡ then_at r (λ j. then_at (f j) g)
-then_then (To c) f g = refl
-then_then Bad f g = refl
+pub then_then : (r : Option Cursor) (f : ℕ → Option Cursor) (g : ℕ → Bool) → then_at (and_then r f) g ≡ then_at r (λ j. then_at (f j) g)
+then_then (Some c) f g = refl
+then_then None f g = refl
 
-pub then_same : (r : Read) {f g : ℕ → Bool} → ((j : ℕ) → f j ≡ g j) → then_at r f ≡ then_at r g
-then_same (To c) h = h c.at
-then_same Bad h = refl
+pub then_same : (r : Option Cursor) {f g : ℕ → Bool} → ((j : ℕ) → f j ≡ g j) → then_at r f ≡ then_at r g
+then_same (Some c) h = h c.at
+then_same None h = refl
 
 -- two answers of one test
 pub cond_both : {A B : Type 0} (R : A → B → Type 0) (t : Bool) {a c : A} {b d : B} → (t ≡ true → R a b) → (t ≡ false → R c d) → R (cond t a c) (cond t b d)
@@ -151,4 +151,4 @@ module _ (s : List ℕ) (p o t : ℕ) (w : whole t ≡ false) where
       ∙ cond_elim P (within lo hi (byte s i)) n bad (λ h. rw (q, h)) (λ h. rw h (accepts_lost s (i + 1)))
     where
       P : ℕ → Type 0
-      P m = accepts_at s (moved p o false m (byte s i)) (i + 1) ≡ then_at (cond (within lo hi (byte s i)) (to (i + 1)) Bad) (accepts_at s (control p n o))
+      P m = accepts_at s (moved p o false m (byte s i)) (i + 1) ≡ then_at (cond (within lo hi (byte s i)) (to (i + 1)) None) (accepts_at s (control p n o))

@@ -1,4 +1,6 @@
 -- Numbers: what is accepted is a number's rest and what is accepted after it.
+use Rattle.json_blocks.specs.declared.Cursor.{Cursor}
+use Rattle.std.specs.Prelude.{Option}
 use mathlib.Core.Path.{◌≡◌, refl, sym, ◌∙◌}
 use mathlib.Core.Bool.{Bool, true, false}
 use mathlib.Core.List.{List}
@@ -9,7 +11,6 @@ use lib.Dec.{eqb, ltb}
 use borrow.Author.Tests.{eqb-true, ltb-true, ltb-false}
 use Rattle.json_blocks.specs.TextBytes.{byte, within}
 use Rattle.json_tokens.specs.Number.{digit, digits_at, integer_at, fraction_at, skip_sign, exponent_at, skip_minus, number_at}
-use Rattle.json_blocks.specs.declared.Read.{Read}
 use Rattle.json_blocks.proofs.ByteLaws.{cond_elim, inside}
 use Rattle.json_tokens.proofs.NumberLaws.{no_digit}
 use Rattle.json_automaton.specs.Token.{bad, byte_move, minus_move, exponent_move, fraction_move, sign_move, token_moves, token_move, whole}
@@ -40,14 +41,14 @@ module _ (s : List ℕ) (o : ℕ) where
       → accepts_at s (moved 5 o false (byte_move 0x30 0x39 n (byte s i)) (byte s i)) (i + 1) ≡ then_at (digits_at s i) (accepts_at s (control 5 n o))
   unfolding byte_move digits_at moved
   some_digits n i q stays =
-      cond_both (λ (m : ℕ) (r : Read). accepts_at s (moved 5 o false m (byte s i)) (i + 1) ≡ then_at r (accepts_at s (control 5 n o))) (digit (byte s i))
+      cond_both (λ (m : ℕ) (r : Option Cursor). accepts_at s (moved 5 o false m (byte s i)) (i + 1) ≡ then_at r (accepts_at s (control 5 n o))) (digit (byte s i))
       (λ _. rw q (accepts_skip s digit no_digit (control 5 n o) stays (i + 1))) (λ _. accepts_lost s (i + 1))
 
   -- after digits stands another byte
   digits_then : (i : ℕ) {f g : ℕ → Bool} → ((k : ℕ) → digit (byte s k) ≡ false → f k ≡ g k) → then_at (digits_at s i) f ≡ then_at (digits_at s i) g
   unfolding digits_at
   digits_then i {f} {g} h =
-      cond_elim (λ (r : Read). then_at r f ≡ then_at r g) (digit (byte s i)) _ _ (λ _. h _ (skip_ended digit no_digit s (i + 1))) (λ _. refl)
+      cond_elim (λ (r : Option Cursor). then_at r f ≡ then_at r g) (digit (byte s i)) _ _ (λ _. h _ (skip_ended digit no_digit s (i + 1))) (λ _. refl)
 
   stays : (n : ℕ) → ((b : ℕ) → digit b ≡ true → token_move n b ≡ n) → eqb n bad ≡ false → (b : ℕ) → digit b ≡ true → move (control 5 n o) b ≡ control 5 n o
   unfolding move moved
@@ -78,7 +79,7 @@ module _ (s : List ℕ) (o : ℕ) where
       (λ g. cond_elim P (eqb (byte s i) 0x45) _ _ (λ h. let y = eqb-true (byte s i) 0x45 h in goes_on s o t w i 26 (omega arith) (e ∙ rw (g, h)) refl ∙ sign_accepts (i + 1))
       (λ h. ends s o t w i (e ∙ rw (g, h))))
     where
-      P : Read → Type 0
+      P : Option Cursor → Type 0
       P r = accepts_at s (control 5 t o) i ≡ then_at r (accepts_at s (control 5 0 o))
 
   -- ---- fractions, and what follows
@@ -93,7 +94,7 @@ module _ (s : List ℕ) (o : ℕ) where
   fraction : (t i : ℕ) → whole t ≡ true → token_move t (byte s i) ≡ fraction_move (byte s i) → accepts_at s (control 5 t o) i ≡ then_at (fraction_at s i) rest_of
   unfolding fraction_at fraction_move
   fraction t i w e =
-      cond_elim (λ (r : Read). accepts_at s (control 5 t o) i ≡ then_at r rest_of) (eqb (byte s i) 0x2E) _ _
+      cond_elim (λ (r : Option Cursor). accepts_at s (control 5 t o) i ≡ then_at r rest_of) (eqb (byte s i) 0x2E) _ _
       (λ h. let y = eqb-true (byte s i) 0x2E h in goes_on s o t w i 24 (omega arith) (e ∙ rw h) refl ∙ point_accepts (i + 1))
       (λ h. exponent t i w (e ∙ rw h))
 
@@ -101,7 +102,7 @@ module _ (s : List ℕ) (o : ℕ) where
   integer : (i : ℕ) → accepts_at s (moved 5 o false (minus_move (byte s i)) (byte s i)) (i + 1) ≡ then_at (integer_at s i) (λ j. then_at (fraction_at s j) rest_of)
   unfolding minus_move integer_at moved token_move token_moves whole
   integer i =
-      cond_both (λ (m : ℕ) (r : Read). accepts_at s (moved 5 o false m (byte s i)) (i + 1) ≡ then_at r (λ j. then_at (fraction_at s j) rest_of)) (eqb (byte s i) 0x30)
+      cond_both (λ (m : ℕ) (r : Option Cursor). accepts_at s (moved 5 o false m (byte s i)) (i + 1) ≡ then_at r (λ j. then_at (fraction_at s j) rest_of)) (eqb (byte s i) 0x30)
       (λ _. fraction 22 (i + 1) refl refl)
       (λ _. some_digits 23 i refl (stays 23 (λ b h. rw h) refl) ∙ digits_then i (λ j e. fraction 23 j refl (rw e)))
 

@@ -1,4 +1,5 @@
 -- In a string: what is accepted is a string's rest and what is accepted after it.
+use Rattle.std.specs.Prelude.{None, Option, Some}
 use mathlib.Core.Path.{◌≡◌, refl, sym, ap, ◌∙◌}
 use mathlib.Core.Bool.{Bool, true, false, cond}
 use mathlib.Core.List.{List}
@@ -11,10 +12,6 @@ use Rattle.json_blocks.specs.Turns.{Turn, after_turn, run_turns, run_text}
 use Rattle.json_blocks.specs.TextBytes.{byte, to, within, byte_within}
 use Rattle.json_characters.specs.String.{two_bytes, three_bytes, multibyte_at, hex_value, if_hex, hex4_at, after_hex4, low_surrogate_at, unicode_escape_at, short_escape, escape_at, character_at, onward, string_turn, string_at}
 use Rattle.json_blocks.specs.declared.Cursor.{Cursor}
-use Rattle.json_blocks.specs.declared.Read.{Read}
-use Rattle.json_blocks.specs.declared.Read.TheVariants.{To, Bad}
-use Rattle.json_characters.specs.declared.Hex4.{Hex4}
-use Rattle.json_characters.specs.declared.Hex4.TheVariants as H
 use Rattle.json_blocks.proofs.ByteLaws.{cond_elim, within_below, within_above, within_from, within_is}
 use Rattle.json_characters.proofs.StringLaws.{string_less}
 use Rattle.json_automaton.specs.Token.{bad, byte_move, is_move, hex_move, low_move, wide_move, text_move, escape_move, first_hex_move, surrogate_move, token_moves, token_move, whole}
@@ -77,7 +74,7 @@ module _ (s : List ℕ) (p o : ℕ) where
   in_string i = accepts_at s (control p 1 o) i
 
   -- the token goes on as x from i on: a read y, and the string goes on after it
-  Goes : ℕ → ℕ → ℕ → Read → Type 0
+  Goes : ℕ → ℕ → ℕ → Option Cursor → Type 0
   Goes b i x y = accepts_at s (moved p o false x b) i ≡ then_at y (accepts_at s (control p 1 o))
 
   -- ---- characters of several bytes
@@ -121,27 +118,27 @@ module _ (s : List ℕ) (p o : ℕ) where
       (cond_both (λ (m : ℕ) (v : Bool). accepts_at s (moved p o false m (byte s i)) j ≡ v) (ltb 15 (hex_value (byte s i)))
       (λ _. accepts_lost s j) (λ _. rw q))
 
-  if_false : (x : ℕ) (y : Hex4) (f : ℕ → ℕ → Read) → (x ≤ 15 → then_at (after_hex4 y f) (accepts_at s (control p 1 o)) ≡ false)
+  if_false : (x : ℕ) (y : Option (ℕ × Cursor)) (f : ℕ → ℕ → Option Cursor) → (x ≤ 15 → then_at (after_hex4 y f) (accepts_at s (control p 1 o)) ≡ false)
       → then_at (after_hex4 (if_hex x y) f) (accepts_at s (control p 1 o)) ≡ false
-  if_false x y f g = cond_elim (λ (z : Hex4). then_at (after_hex4 z f) (accepts_at s (control p 1 o)) ≡ false) (ltb 15 x) H.Bad y (λ _. refl) (λ e. g (ltb-false 15 x e))
+  if_false x y f g = cond_elim (λ (z : Option (ℕ × Cursor)). then_at (after_hex4 z f) (accepts_at s (control p 1 o)) ≡ false) (ltb 15 x) None y (λ _. refl) (λ e. g (ltb-false 15 x e))
 
-  if_hex_lem : (x : ℕ) (y : Hex4) (f : ℕ → ℕ → Read) {v : Bool} → (x ≤ 15 → v ≡ then_at (after_hex4 y f) (accepts_at s (control p 1 o)))
+  if_hex_lem : (x : ℕ) (y : Option (ℕ × Cursor)) (f : ℕ → ℕ → Option Cursor) {v : Bool} → (x ≤ 15 → v ≡ then_at (after_hex4 y f) (accepts_at s (control p 1 o)))
       → cond (ltb 15 x) false v ≡ then_at (after_hex4 (if_hex x y) f) (accepts_at s (control p 1 o))
-  if_hex_lem x y f g = cond_both (λ (v : Bool) (z : Hex4). v ≡ then_at (after_hex4 z f) (accepts_at s (control p 1 o))) (ltb 15 x) (λ _. refl) (λ e. g (ltb-false 15 x e))
+  if_hex_lem x y f g = cond_both (λ (v : Bool) (z : Option (ℕ × Cursor)). v ≡ then_at (after_hex4 z f) (accepts_at s (control p 1 o))) (ltb 15 x) (λ _. refl) (λ e. g (ltb-false 15 x e))
 
   -- two digits more, of a number that begins with a; then the token is v
-  two_digits : (t u v : ℕ) (f : ℕ → ℕ → Read) (a i j k : ℕ) → whole t ≡ false → whole u ≡ false → ((b : ℕ) → token_move t b ≡ hex_move u b)
+  two_digits : (t u v : ℕ) (f : ℕ → ℕ → Option Cursor) (a i j k : ℕ) → whole t ≡ false → whole u ≡ false → ((b : ℕ) → token_move t b ≡ hex_move u b)
       → ((b : ℕ) → token_move u b ≡ hex_move v b) → eqb u bad ≡ false → eqb v bad ≡ false → i + 1 ≡ j → j + 1 ≡ k
       → ((c d : ℕ) → c ≤ 15 → d ≤ 15 → accepts_at s (control p v o) k ≡ then_at (f ((a * 16 + c) * 16 + d) k) (accepts_at s (control p 1 o)))
       → accepts_at s (control p t o) i
-      ≡ then_at (after_hex4 (if_hex (hex_value (byte s i)) (if_hex (hex_value (byte s j)) (H.Code ((a * 16 + hex_value (byte s i)) * 16 + hex_value (byte s j)) (record { at = k })))) f) (accepts_at s (control p 1 o))
+      ≡ then_at (after_hex4 (if_hex (hex_value (byte s i)) (if_hex (hex_value (byte s j)) (Some (((a * 16 + hex_value (byte s i)) * 16 + hex_value (byte s j)), (record { at = k }))))) f) (accepts_at s (control p 1 o))
   two_digits t u v f a i j k wt wu et eu qu qv ej ek g =
       hex_step t u i j wt et qu ej
       ∙ if_hex_lem (hex_value (byte s i)) _ f (λ c. hex_step u v j k wu eu qv ek ∙ if_hex_lem (hex_value (byte s j)) _ f (λ d. g _ _ c d))
 
   -- ---- escapes
-  at_low : ℕ → ℕ → Read
-  at_low n j = cond (within 0xDC00 0xDFFF n) (to j) Bad
+  at_low : ℕ → ℕ → Option Cursor
+  at_low n j = cond (within 0xDC00 0xDFFF n) (to j) None
 
   no_low : (n j : ℕ) → within 0xDC00 0xDFFF n ≡ false → then_at (at_low n j) (accepts_at s (control p 1 o)) ≡ false
   unfolding at_low
@@ -152,15 +149,15 @@ module _ (s : List ℕ) (p o : ℕ) where
   is_low_at n j e = rw e
 
   -- two digits more, of any number and of a high surrogate
-  last_digits : (f : ℕ → ℕ → Read) (a i : ℕ) → ((c d : ℕ) → c ≤ 15 → d ≤ 15 → accepts_at s (control p 1 o) (i + 4) ≡ then_at (f ((a * 16 + c) * 16 + d) (i + 4)) (accepts_at s (control p 1 o)))
+  last_digits : (f : ℕ → ℕ → Option Cursor) (a i : ℕ) → ((c d : ℕ) → c ≤ 15 → d ≤ 15 → accepts_at s (control p 1 o) (i + 4) ≡ then_at (f ((a * 16 + c) * 16 + d) (i + 4)) (accepts_at s (control p 1 o)))
       → accepts_at s (control p 11 o) (i + 2)
-      ≡ then_at (after_hex4 (if_hex (hex s (i + 2)) (if_hex (hex s (i + 3)) (H.Code ((a * 16 + hex s (i + 2)) * 16 + hex s (i + 3)) (record { at = i + 4 })))) f) (accepts_at s (control p 1 o))
+      ≡ then_at (after_hex4 (if_hex (hex s (i + 2)) (if_hex (hex s (i + 3)) (Some (((a * 16 + hex s (i + 2)) * 16 + hex s (i + 3)), (record { at = i + 4 }))))) f) (accepts_at s (control p 1 o))
   unfolding token_move token_moves whole
   last_digits f a i g = two_digits 11 10 1 f a (i + 2) (i + 3) (i + 4) refl refl (λ b. refl) (λ b. refl) refl refl (omega arith) (omega arith) g
 
-  high_digits : (f : ℕ → ℕ → Read) (a i : ℕ) → ((c d : ℕ) → c ≤ 15 → d ≤ 15 → accepts_at s (control p 17 o) (i + 4) ≡ then_at (f ((a * 16 + c) * 16 + d) (i + 4)) (accepts_at s (control p 1 o)))
+  high_digits : (f : ℕ → ℕ → Option Cursor) (a i : ℕ) → ((c d : ℕ) → c ≤ 15 → d ≤ 15 → accepts_at s (control p 17 o) (i + 4) ≡ then_at (f ((a * 16 + c) * 16 + d) (i + 4)) (accepts_at s (control p 1 o)))
       → accepts_at s (control p 15 o) (i + 2)
-      ≡ then_at (after_hex4 (if_hex (hex s (i + 2)) (if_hex (hex s (i + 3)) (H.Code ((a * 16 + hex s (i + 2)) * 16 + hex s (i + 3)) (record { at = i + 4 })))) f) (accepts_at s (control p 1 o))
+      ≡ then_at (after_hex4 (if_hex (hex s (i + 2)) (if_hex (hex s (i + 3)) (Some (((a * 16 + hex s (i + 2)) * 16 + hex s (i + 3)), (record { at = i + 4 }))))) f) (accepts_at s (control p 1 o))
   unfolding token_move token_moves whole
   high_digits f a i g = two_digits 15 16 17 f a (i + 2) (i + 3) (i + 4) refl refl (λ b. refl) (λ b. refl) refl refl (omega arith) (omega arith) g
 
@@ -204,15 +201,15 @@ module _ (s : List ℕ) (p o : ℕ) where
   unfolding low_surrogate_at token_move token_moves whole is_move moved at_low
   low_escape i =
       token_step s p o 17 refl i no_zero.4
-      ∙ cond_both (λ (m : ℕ) (r : Read). accepts_at s (moved p o false m (byte s i)) (i + 1) ≡ then_at r (accepts_at s (control p 1 o))) (eqb (byte s i) 0x5C)
+      ∙ cond_both (λ (m : ℕ) (r : Option Cursor). accepts_at s (moved p o false m (byte s i)) (i + 1) ≡ then_at r (accepts_at s (control p 1 o))) (eqb (byte s i) 0x5C)
       (λ _. token_step s p o 18 refl (i + 1) no_zero.5
-      ∙ cond_both (λ (m : ℕ) (r : Read). accepts_at s (moved p o false m (byte s (i + 1))) (i + 1 + 1) ≡ then_at r (accepts_at s (control p 1 o))) (eqb (byte s (i + 1)) 0x75)
+      ∙ cond_both (λ (m : ℕ) (r : Option Cursor). accepts_at s (moved p o false m (byte s (i + 1))) (i + 1 + 1) ≡ then_at r (accepts_at s (control p 1 o))) (eqb (byte s (i + 1)) 0x75)
       (λ _. rw (two_on i) (low_digits (i + 2))) (λ _. accepts_lost s (i + 1 + 1)))
       (λ _. accepts_lost s (i + 1))
 
   -- past `\u`
-  at_unit : ℕ → ℕ → Read
-  at_unit n j = cond (within 0xD800 0xDBFF n) (low_surrogate_at s j) (cond (within 0xDC00 0xDFFF n) Bad (to j))
+  at_unit : ℕ → ℕ → Option Cursor
+  at_unit n j = cond (within 0xD800 0xDBFF n) (low_surrogate_at s j) (cond (within 0xDC00 0xDFFF n) None (to j))
 
   module _ (n j : ℕ) where
     unit_high : within 0xD800 0xDBFF n ≡ true → accepts_at s (control p 17 o) j ≡ then_at (at_unit n j) (accepts_at s (control p 1 o))
@@ -231,13 +228,13 @@ module _ (s : List ℕ) (p o : ℕ) where
   unfolding unicode_escape_at hex4_at token_move token_moves whole first_hex_move surrogate_move hex_move moved at_unit
   unicode i =
       token_step s p o 13 refl i no_zero.2
-      ∙ cond_both (λ (m : ℕ) (h : Hex4). accepts_at s (moved p o false m (byte s i)) (i + 1) ≡ then_at (after_hex4 h at_unit) (accepts_at s (control p 1 o))) (ltb 15 (hex s i))
+      ∙ cond_both (λ (m : ℕ) (h : Option (ℕ × Cursor)). accepts_at s (moved p o false m (byte s i)) (i + 1) ≡ then_at (after_hex4 h at_unit) (accepts_at s (control p 1 o))) (ltb 15 (hex s i))
       (λ _. accepts_lost s (i + 1))
       (λ h. cond_elim (λ (m : ℕ). accepts_at s (moved p o false m (byte s i)) (i + 1) ≡ then_at (after_hex4 more at_unit) (accepts_at s (control p 1 o))) (eqb (hex s i) 13) 14 12
       (λ e. dee (eqb-true _ _ e)) (λ e. other (eqb-false _ _ e)))
     where
-      more : Hex4
-      more = if_hex (hex s (i + 1)) (if_hex (hex s (i + 2)) (if_hex (hex s (i + 3)) (H.Code (code (hex s i) (hex s (i + 1)) (hex s (i + 2)) (hex s (i + 3))) (record { at = i + 4 }))))
+      more : Option (ℕ × Cursor)
+      more = if_hex (hex s (i + 1)) (if_hex (hex s (i + 2)) (if_hex (hex s (i + 3)) (Some ((code (hex s i) (hex s (i + 1)) (hex s (i + 2)) (hex s (i + 3))), (record { at = i + 4 })))))
 
       other : (hex s i ≡ 13 → ⊥) → accepts_at s (control p 12 o) (i + 1) ≡ then_at (after_hex4 more at_unit) (accepts_at s (control p 1 o))
       other e =
@@ -280,21 +277,21 @@ module _ (s : List ℕ) (p o : ℕ) where
       ∙ cond_both R (short_escape (byte s i)) (λ _. refl)
       (λ _. cond_both R (eqb (byte s i) 0x75) (λ _. unicode (i + 1)) (λ _. accepts_lost s (i + 1)))
     where
-      R : ℕ → Read → Type 0
+      R : ℕ → Option Cursor → Type 0
       R m r = accepts_at s (moved p o false m (byte s i)) (i + 1) ≡ then_at r (accepts_at s (control p 1 o))
 
   -- ---- characters up to the closing quote
-  strings : (n i : ℕ) → length s - i < n → accepts_at s (control p 1 o) i ≡ then_at (run_turns Bad (string_turn s) n i) (accepts_at s (control p 0 o))
+  strings : (n i : ℕ) → length s - i < n → accepts_at s (control p 1 o) i ≡ then_at (run_turns None (string_turn s) n i) (accepts_at s (control p 0 o))
   unfolding run_turns string_turn token_move token_moves whole text_move character_at moved Goes
   strings zero i h = absurd (omega arith)
   strings (suc n) i h =
       token_step s p o 1 refl i no_zero.0
       ∙ cond_both Q (eqb (byte s i) 0x22) (λ _. refl) (λ e. character ∙ go (character_at s i) refl (λ c r. less e c r) (strings n))
     where
-      Q : ℕ → Turn Read → Type 0
-      Q m t = accepts_at s (moved p o false m (byte s i)) (i + 1) ≡ then_at (after_turn t (λ j. run_turns Bad (string_turn s) n j)) (accepts_at s (control p 0 o))
+      Q : ℕ → Turn (Option Cursor) → Type 0
+      Q m t = accepts_at s (moved p o false m (byte s i)) (i + 1) ≡ then_at (after_turn t (λ j. run_turns None (string_turn s) n j)) (accepts_at s (control p 0 o))
 
-      R : ℕ → Read → Type 0
+      R : ℕ → Option Cursor → Type 0
       R m r = accepts_at s (moved p o false m (byte s i)) (i + 1) ≡ then_at r (accepts_at s (control p 1 o))
 
       character : R (cond (ltb (byte s i) 0x20) bad (cond (eqb (byte s i) 0x5C) 9 (cond (ltb (byte s i) 0x80) 1 (wide_move (byte s i))))) (character_at s i)
@@ -303,14 +300,14 @@ module _ (s : List ℕ) (p o : ℕ) where
           (λ _. cond_both R (eqb (byte s i) 0x5C) (λ _. escaped (i + 1))
           (λ _. cond_both R (ltb (byte s i) 0x80) (λ _. refl) (λ _. wide (byte s i) (i + 1))))
 
-      less : eqb (byte s i) 0x22 ≡ false → (c : Cursor) → character_at s i ≡ To c → (i < c.at) × (i < length s)
+      less : eqb (byte s i) 0x22 ≡ false → (c : Cursor) → character_at s i ≡ Some c → (i < c.at) × (i < length s)
       less e c r = string_less s i (byte s i) refl (eqb-false _ _ e) (character_at s i) refl c r
 
-      go : (r : Read) → character_at s i ≡ r → ((c : Cursor) → character_at s i ≡ To c → (i < c.at) × (i < length s))
-          → ((j : ℕ) → length s - j < n → accepts_at s (control p 1 o) j ≡ then_at (run_turns Bad (string_turn s) n j) (accepts_at s (control p 0 o)))
-          → then_at r (accepts_at s (control p 1 o)) ≡ then_at (after_turn (onward r) (λ j. run_turns Bad (string_turn s) n j)) (accepts_at s (control p 0 o))
-      go (To c) e l f = let m = l c e in f c.at (omega arith)
-      go Bad e l f = refl
+      go : (r : Option Cursor) → character_at s i ≡ r → ((c : Cursor) → character_at s i ≡ Some c → (i < c.at) × (i < length s))
+          → ((j : ℕ) → length s - j < n → accepts_at s (control p 1 o) j ≡ then_at (run_turns None (string_turn s) n j) (accepts_at s (control p 0 o)))
+          → then_at r (accepts_at s (control p 1 o)) ≡ then_at (after_turn (onward r) (λ j. run_turns None (string_turn s) n j)) (accepts_at s (control p 0 o))
+      go (Some c) e l f = let m = l c e in f c.at (omega arith)
+      go None e l f = refl
 
   -- from past the opening quote
   pub string_accepts : (i : ℕ) → accepts_at s (control p 1 o) i ≡ then_at (string_at s i) (accepts_at s (control p 0 o))

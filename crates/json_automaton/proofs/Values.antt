@@ -1,4 +1,5 @@
 -- Literals, arrays, objects and values: what is accepted is the rest of one and what is accepted after it.
+use Rattle.std.specs.Prelude.{None, Option, Some}
 use mathlib.Core.Path.{◌≡◌, refl, sym, ap, ◌∙◌}
 use mathlib.Core.Bool.{Bool, true, false, cond, ◌&&◌}
 use mathlib.Core.List.{List, [], ◌∷◌}
@@ -16,8 +17,6 @@ use Rattle.json_blocks.specs.Group.{after_item, colon_at}
 use Rattle.json_tokens.specs.MemberName.{name_at}
 use Rattle.json_characters.specs.String.{string_at}
 use Rattle.json_blocks.specs.declared.Cursor.{Cursor}
-use Rattle.json_blocks.specs.declared.Read.{Read}
-use Rattle.json_blocks.specs.declared.Read.TheVariants as R
 use Rattle.json_blocks.specs.declared.After.{After}
 use Rattle.json_blocks.specs.declared.After.TheVariants as A
 use Rattle.json_blocks.proofs.ByteLaws.{cond_elim, inside, no_blank}
@@ -40,7 +39,7 @@ module _ (s : List ℕ) (o : ℕ) where
   literal_bad : (w : ℕ) (ws : List ℕ) (i : ℕ) → eqb (byte s i) w ≡ false → then_at (literal_at s (w ∷ ws) i) (accepts_at s (control 5 0 o)) ≡ false
   unfolding literal_at
   literal_bad w ws i e = rw e (go (ltb i (length s))) where
-    go : (t : Bool) → then_at (cond (t && false) (literal_at s ws (i + 1)) R.Bad) (accepts_at s (control 5 0 o)) ≡ false
+    go : (t : Bool) → then_at (cond (t && false) (literal_at s ws (i + 1)) None) (accepts_at s (control 5 0 o)) ≡ false
     go true = refl
     go false = refl
 
@@ -110,10 +109,10 @@ module _ (s : List ℕ) (o : ℕ) where
   colon_step i = place_step 4 i refl refl
 
 -- ---- what follows an item
-abbrev then_after : After → (ℕ → Bool) → (ℕ → Bool) → Bool
-then_after (A.Item c) f g = f c.at
-then_after (A.Close c) f g = g c.at
-then_after A.Bad f g = false
+abbrev then_after : Option After → (ℕ → Bool) → (ℕ → Bool) → Bool
+then_after (Some (A.Item c)) f g = f c.at
+then_after (Some (A.Close c)) f g = g c.at
+then_after None f g = false
 
 module _ (s : List ℕ) (o close : ℕ) (inner : 2 ≤ o) (closed : closing o ≡ close) (solid : 0 < close) where
   group_none : get_or (place_moves o 0) 2 lost ≡ lost
@@ -137,30 +136,30 @@ module _ (s : List ℕ) (o close : ℕ) (inner : 2 ≤ o) (closed : closing o �
       (cond_both Q (eqb (byte s (skip_blanks s i)) 0x2C) (λ _. next_step s o (skip_blanks s i + 1))
       (λ _. cond_both Q (eqb (byte s (skip_blanks s i)) close) (λ _. refl) (λ _. accepts_lost s (skip_blanks s i + 1))))
     where
-      Q : Control → After → Type 0
+      Q : Control → Option After → Type 0
       Q c a = accepts_at s c (skip_blanks s i + 1) ≡ then_after a (λ j. accepts_at s (item_move o (byte s j)) (j + 1)) (accepts_at s (pop o))
 
-  module _ (item : ℕ → Read) (forward : Forward item)
+  module _ (item : ℕ → Option Cursor) (forward : Forward item)
       (item-accepts : (j : ℕ) → accepts_at s (item_move o (byte s j)) (j + 1) ≡ then_at (item j) (accepts_at s (control 5 0 o))) where
     items : (n i : ℕ) → length s - i < n
-        → accepts_at s (item_move o (byte s i)) (i + 1) ≡ then_at (run_turns R.Bad (item-turn item s close) n i) (accepts_at s (pop o))
+        → accepts_at s (item_move o (byte s i)) (i + 1) ≡ then_at (run_turns None (item-turn item s close) n i) (accepts_at s (pop o))
     unfolding run_turns item-turn
     items zero i h = absurd (omega arith)
     items (suc n) i h = item-accepts i ∙ go (item i) refl (items n) where
-      follow : (c : Cursor) (a : After) → item i ≡ R.To c → after_item s close c.at ≡ a
-          → ((j : ℕ) → length s - j < n → accepts_at s (item_move o (byte s j)) (j + 1) ≡ then_at (run_turns R.Bad (item-turn item s close) n j) (accepts_at s (pop o)))
+      follow : (c : Cursor) (a : Option After) → item i ≡ Some c → after_item s close c.at ≡ a
+          → ((j : ℕ) → length s - j < n → accepts_at s (item_move o (byte s j)) (j + 1) ≡ then_at (run_turns None (item-turn item s close) n j) (accepts_at s (pop o)))
           → then_after a (λ j. accepts_at s (item_move o (byte s j)) (j + 1)) (accepts_at s (pop o))
-          ≡ then_at (after_turn_lem (close-turn a) (λ j. run_turns R.Bad (item-turn item s close) n j)) (accepts_at s (pop o))
-      follow c (A.Item d) e q f = let m = items_less item s close i c e forward d q in f d.at (omega arith)
-      follow c (A.Close d) e q f = refl
-      follow c A.Bad e q f = refl
+          ≡ then_at (after_turn_lem (close-turn a) (λ j. run_turns None (item-turn item s close) n j)) (accepts_at s (pop o))
+      follow c (Some (A.Item d)) e q f = let m = items_less item s close i c e forward d q in f d.at (omega arith)
+      follow c (Some (A.Close d)) e q f = refl
+      follow c None e q f = refl
 
-      go : (r : Read) → item i ≡ r
-          → ((j : ℕ) → length s - j < n → accepts_at s (item_move o (byte s j)) (j + 1) ≡ then_at (run_turns R.Bad (item-turn item s close) n j) (accepts_at s (pop o)))
+      go : (r : Option Cursor) → item i ≡ r
+          → ((j : ℕ) → length s - j < n → accepts_at s (item_move o (byte s j)) (j + 1) ≡ then_at (run_turns None (item-turn item s close) n j) (accepts_at s (pop o)))
           → then_at r (accepts_at s (control 5 0 o))
-          ≡ then_at (after_turn_lem (then_turn r (λ j. close-turn (after_item s close j))) (λ j. run_turns R.Bad (item-turn item s close) n j)) (accepts_at s (pop o))
-      go (R.To c) e f = after_accepts c.at ∙ follow c (after_item s close c.at) e refl f
-      go R.Bad e f = refl
+          ≡ then_at (after_turn_lem (then_turn r (λ j. close-turn (after_item s close j))) (λ j. run_turns None (item-turn item s close) n j)) (accepts_at s (pop o))
+      go (Some c) e f = after_accepts c.at ∙ follow c (after_item s close c.at) e refl f
+      go None e f = refl
 
     -- from past the opening bracket
     group_accepts : (i : ℕ) → accepts_at s (control 2 0 o) i ≡ then_at (group_at item s close i) (accepts_at s (pop o))
@@ -168,17 +167,17 @@ module _ (s : List ℕ) (o close : ℕ) (inner : 2 ≤ o) (closed : closing o �
     group_accepts i =
         place_step s o 2 i refl group_none
         ∙ rw closed
-        (cond_both (λ (c : Control) (r : Read). accepts_at s c (skip_blanks s i + 1) ≡ then_at r (accepts_at s (pop o))) (eqb (byte s (skip_blanks s i)) close) (λ _. refl)
+        (cond_both (λ (c : Control) (r : Option Cursor). accepts_at s c (skip_blanks s i + 1) ≡ then_at r (accepts_at s (pop o))) (eqb (byte s (skip_blanks s i)) close) (λ _. refl)
         (λ _. items (suc (length s)) (skip_blanks s i) (omega arith)))
 
 -- ---- members
-module _ (s : List ℕ) (o : ℕ) (object : is_object_top o ≡ true) (value : ℕ → Read)
+module _ (s : List ℕ) (o : ℕ) (object : is_object_top o ≡ true) (value : ℕ → Option Cursor)
     (value_accepts : (j : ℕ) → accepts_at s (value_move o (byte s j)) (j + 1) ≡ then_at (value j) (accepts_at s (control 5 0 o))) where
   colon_accepts : (i : ℕ) → accepts_at s (control 4 0 o) i ≡ then_at (and_then (colon_at s i) value) (accepts_at s (control 5 0 o))
   unfolding colon_move colon_at
   colon_accepts i =
       colon_step s o i
-      ∙ cond_both (λ (c : Control) (r : Read). accepts_at s c (skip_blanks s i + 1) ≡ then_at (and_then r value) (accepts_at s (control 5 0 o)))
+      ∙ cond_both (λ (c : Control) (r : Option Cursor). accepts_at s c (skip_blanks s i + 1) ≡ then_at (and_then r value) (accepts_at s (control 5 0 o)))
       (eqb (byte s (skip_blanks s i)) 0x3A)
       (λ _. value_step s o (skip_blanks s i + 1) ∙ value_accepts (skip_blanks s (skip_blanks s i + 1))) (λ _. accepts_lost s (skip_blanks s i + 1))
 
@@ -186,15 +185,15 @@ module _ (s : List ℕ) (o : ℕ) (object : is_object_top o ≡ true) (value : �
   unfolding item_move member_at name_at
   member_accepts i =
       rw object
-      (cond_both (λ (c : Control) (n : Read). accepts_at s c (i + 1) ≡ then_at (and_then n value) (accepts_at s (control 5 0 o))) (eqb (byte s i) 0x22)
+      (cond_both (λ (c : Control) (n : Option Cursor). accepts_at s c (i + 1) ≡ then_at (and_then n value) (accepts_at s (control 5 0 o))) (eqb (byte s i) 0x22)
       (λ _. string_accepts s 4 o (i + 1) ∙ go (string_at s (i + 1))) (λ _. accepts_lost s (i + 1)))
     where
-      go : (r : Read) → then_at r (accepts_at s (control 4 0 o)) ≡ then_at (and_then (and_then r (colon_at s)) value) (accepts_at s (control 5 0 o))
-      go (R.To c) = colon_accepts c.at
-      go R.Bad = refl
+      go : (r : Option Cursor) → then_at r (accepts_at s (control 4 0 o)) ≡ then_at (and_then (and_then r (colon_at s)) value) (accepts_at s (control 5 0 o))
+      go (Some c) = colon_accepts c.at
+      go None = refl
 
 -- ---- values
-module _ (s : List ℕ) (o i : ℕ) (array object : ℕ → Read)
+module _ (s : List ℕ) (o i : ℕ) (array object : ℕ → Option Cursor)
     (array-accepts : accepts_at s (push o 0) (i + 1) ≡ then_at (array (i + 1)) (accepts_at s (control 5 0 o)))
     (object-accepts : accepts_at s (push o 1) (i + 1) ≡ then_at (object (i + 1)) (accepts_at s (control 5 0 o))) where
   any_accepts : accepts_at s (value_move o (byte s i)) (i + 1) ≡ then_at (any_value_at array object s i) (accepts_at s (control 5 0 o))
@@ -208,7 +207,7 @@ module _ (s : List ℕ) (o i : ℕ) (array object : ℕ → Read)
       (λ _. cond_both Q (eqb (byte s i) 0x6E) (λ e. null_accepts s o i (eqb-true _ _ e))
       (λ _. number_accepts s o i))))))
     where
-      Q : Control → Read → Type 0
+      Q : Control → Option Cursor → Type 0
       Q c r = accepts_at s c (i + 1) ≡ then_at r (accepts_at s (control 5 0 o))
 
 -- ---- the stack: m brackets open
@@ -243,7 +242,7 @@ element s o e j = rw e
 pub value_accepts : (s : List ℕ) (d m o : ℕ) → m + d ≡ 32 → 2 ^ m ≤ o → o < 2 ^ suc m → (i : ℕ)
     → accepts_at s (value_move o (byte s i)) (i + 1) ≡ then_at (value_at d s i) (accepts_at s (control 5 0 o))
 unfolding value_at
-value_accepts s zero m o e h l i = any_accepts s o i (λ _. R.Bad) (λ _. R.Bad) (closed 0) (closed 1) where
+value_accepts s zero m o e h l i = any_accepts s o i (λ _. None) (λ _. None) (closed 0) (closed 1) where
   closed : (k : ℕ) → accepts_at s (push o k) (i + 1) ≡ false
   closed k = rw (push_full o k (deep m o (omega arith) h)) (accepts_lost s (i + 1))
 value_accepts s (suc d) m o e h l i = any_accepts s o i _ _ (array (value_accepts s d (suc m) (o * 2 + 0) (omega arith) (twice 0) (below 0 (omega arith))))
@@ -292,6 +291,6 @@ unfolding is_json accepts_at
 accepts_json s =
     value_step s 1 0 ∙ value_accepts s 32 0 1 refl (omega arith) (omega arith) (skip_blanks s 0) ∙ go (value_at nesting s (skip_blanks s 0))
   where
-    go : (r : Read) → then_at r (accepts_at s (control 5 0 1)) ≡ ends_text s r
-    go (R.To c) = over s c.at
-    go R.Bad = refl
+    go : (r : Option Cursor) → then_at r (accepts_at s (control 5 0 1)) ≡ ends_text s r
+    go (Some c) = over s c.at
+    go None = refl

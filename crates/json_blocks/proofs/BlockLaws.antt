@@ -6,9 +6,9 @@ use Prim.Native.Nat.{ℕ, zero, suc, ◌≤◌, ◌<◌, ◌+◌, ◌-◌}
 use native.Mathlib.Omega.{arith}
 use lib.ListN.{length}
 use lib.Dec.{eqb, ltb, leb}
-use borrow.Author.Tests.{le-leb, lt-leb, leb-true, leb-false, ltb-true, ltb-false, eqb-true, eqb-false, not-true}
+use borrow.Author.Tests.{leb-true, ltb-true, ltb-false, eqb-true, eqb-false, not-true}
 use Rattle.json_blocks.specs.TextBytes.{byte, blank, skip_blanks}
-use Rattle.json_blocks.specs.Blocks.{plain_byte, ordinary_byte, space_byte, all_at, block_at, PlainTo}
+use Rattle.json_blocks.specs.Blocks.{plain_byte, ordinary_byte, space_byte, all_at, block_at, GoodTo}
 use Rattle.json_blocks.proofs.ByteLaws.{inside, no_blank, skip_on}
 
 pub and_left : (a b : Bool) → (a && b) ≡ true → a ≡ true
@@ -27,21 +27,8 @@ pub and_true : (a : Bool) → a ≡ (a && true)
 and_true true = refl
 and_true false = refl
 
--- n bytes from i on are there
-pub room_is : (i n m : ℕ) → n ≤ m → leb i (m - n) ≡ leb (i + n) m
-room_is i n m h = go (leb (i + n) m) refl where
-  go : (t : Bool) → leb (i + n) m ≡ t → leb i (m - n) ≡ t
-  go true e = let l = leb-true (i + n) m e in le-leb i (m - n) (omega arith)
-  go false e = let l = leb-false (i + n) m e in lt-leb i (m - n) (omega arith)
-
 -- ---- any test
 module _ (good : ℕ → Bool) (s : List ℕ) where
-  pub all_start : (i n : ℕ) → (true && all_at good (n - 0) s (i + 0)) ≡ all_at good n s i
-  all_start i n =
-      let m : n - 0 ≡ n = omega arith in
-      let p : i + 0 ≡ i = omega arith in
-      rw (m, p)
-
   -- one byte more, k of the n being tested
   pub all_on : (i n k : ℕ) → k < n → (ok next : Bool) → next ≡ (ok && good (byte s (i + k)))
       → (next && all_at good (n - (k + 1)) s (i + (k + 1))) ≡ (ok && all_at good (n - k) s (i + k))
@@ -97,9 +84,6 @@ space_blank : (b : ℕ) → space_byte b ≡ true → blank b ≡ true
 unfolding space_byte blank
 space_blank b h = rw h
 
-pub spaces_pass : (s : List ℕ) (n i : ℕ) → i + n ≤ length s → all_at space_byte n s i ≡ true → skip_blanks s (i + n) ≡ skip_blanks s i
-spaces_pass s = all_pass space_byte s (skip_blanks s) (λ i l h. skip_on blank no_blank s i (byte s i) refl (space_blank (byte s i) h))
-
 pub feed_pass : (s : List ℕ) (i b : ℕ) → b ≡ byte s i → b ≡ 0x0A → skip_blanks s (i + 1) ≡ skip_blanks s i
 unfolding blank
 feed_pass s i b e h = skip_on blank no_blank s i b e (rw h)
@@ -144,26 +128,29 @@ module _ (s : List ℕ) where
     pub plain_inside : i < length s
     plain_inside = let p = plain_is b h in inside s i b e (omega (arith, p.low))
 
-  pub plain_start : (at : ℕ) → PlainTo s at at
-  plain_start at = record { onward = omega arith; each = λ i l m. absurd (omega arith) }
-
+-- ---- bytes up to a place
+module _ (good : ℕ → Bool) (s : List ℕ) where
   -- a block more
-  pub plain_more : (at i n : ℕ) → PlainTo s at i → all_at plain_byte n s i ≡ true → PlainTo s at (i + n)
-  plain_more at i n p h = record { onward = omega (arith, p.onward); each = λ j l m. go j (ltb j i) refl l m } where
-    go : (j : ℕ) (t : Bool) → ltb j i ≡ t → at ≤ j → j < i + n → plain_byte (byte s j) ≡ true
+  pub good_more : (at i : ℕ) → GoodTo good s at i → block_at good s i ≡ true → GoodTo good s at (i + 8)
+  good_more at i p h = record { onward = omega (arith, p.onward); each = λ j l m. go j (ltb j i) refl l m } where
+    go : (j : ℕ) (t : Bool) → ltb j i ≡ t → at ≤ j → j < i + 8 → good (byte s j) ≡ true
     go j true e l m = p.each j l (ltb-true _ _ e)
-    go j false e l m = all_each plain_byte s n i h j (ltb-false _ _ e) m
+    go j false e l m = all_each good s 8 i (block_good good s i h) j (ltb-false _ _ e) m
 
-  -- what each plain byte leaves as it is, plain bytes leave as it is
-  module _ {A : Type 0} (f : ℕ → A) (same : (i : ℕ) → plain_byte (byte s i) ≡ true → f (i + 1) ≡ f i) where
-    passed : (n at : ℕ) → ((i : ℕ) → at ≤ i → i < at + n → plain_byte (byte s i) ≡ true) → f (at + n) ≡ f at
+  -- what each good byte leaves as it is, good bytes leave as it is
+  module _ {A : Type 0} (f : ℕ → A) (same : (i : ℕ) → good (byte s i) ≡ true → f (i + 1) ≡ f i) where
+    passed : (n at : ℕ) → ((i : ℕ) → at ≤ i → i < at + n → good (byte s i) ≡ true) → f (at + n) ≡ f at
     passed zero at h = let p : at + 0 ≡ at = omega arith in rw p
     passed (suc n) at h =
         let p : at + suc n ≡ at + 1 + n = omega arith in
         rw p (passed n (at + 1) (λ i l m. h i (omega arith) (omega arith)) ∙ same at (h at (omega arith) (omega arith)))
 
-    pub plain_pass : (at r : ℕ) → PlainTo s at r → f r ≡ f at
-    plain_pass at r p =
+    pub good_pass : (at r : ℕ) → GoodTo good s at r → f r ≡ f at
+    good_pass at r p =
         let l = p.onward in
         let e : r ≡ at + (r - at) = omega arith in
         rw e (passed (r - at) at (λ i l m. p.each i l (omega arith)))
+
+-- blanks go on past spaces
+pub spaces_pass : (s : List ℕ) (at r : ℕ) → GoodTo space_byte s at r → skip_blanks s r ≡ skip_blanks s at
+spaces_pass s = good_pass space_byte s (skip_blanks s) (λ i h. skip_on blank no_blank s i (byte s i) refl (space_blank (byte s i) h))

@@ -1,5 +1,6 @@
 -- Steps of the definitions of specs/TextBytes.antt, on plain variables.
-use mathlib.Core.Path.{◌≡◌, refl, sym, ap, ◌∙◌}
+use Rattle.std.specs.Prelude.{None, Option, Some}
+use mathlib.Core.Path.{◌≡◌, refl, sym, ◌∙◌}
 use mathlib.Core.Bool.{Bool, true, false, cond, ◌&&◌}
 use mathlib.Core.List.{List}
 use Prim.Native.Nat.{ℕ, zero, suc, ◌≤◌, ◌<◌, ◌+◌, ◌-◌}
@@ -10,8 +11,6 @@ use lib.Seq.{drop-cons}
 use lib.Dec.{ltb, leb}
 use borrow.Author.Tests.{eq-eqb, ne_eqb, lt-ltb, le-ltb, lt-leb, le-leb, ltb-true, ltb-false, leb-true}
 use Rattle.json_blocks.specs.declared.Cursor.{Cursor}
-use Rattle.json_blocks.specs.declared.Read.{Read}
-use Rattle.json_blocks.specs.declared.Read.TheVariants.{To, Bad}
 use Rattle.json_blocks.specs.Turns.{Turn, on, out, after_turn, run_turns, run_text}
 use Rattle.json_blocks.specs.TextBytes.{byte, to, and_then, within, blank, skip_turn, skip_while, byte_within, literal_at}
 use Rattle.json_blocks.proofs.TurnLaws.{Advances, run_out, run_on}
@@ -55,14 +54,6 @@ module _ (lo hi b : ℕ) where
 pub no_blank : blank 0 ≡ false
 unfolding blank
 no_blank = refl
-
--- ---- reads in a row
-module _ (x : Read) (f : ℕ → Read) (r : Read) (e : r ≡ x) where
-  pub then_bad : r ≡ Bad → Bad ≡ and_then x f
-  then_bad h = sym (ap (λ (y : Read). and_then y f) (sym e ∙ h))
-
-  pub then_to : (c : Cursor) (q : Read) → r ≡ To c → q ≡ f c.at → q ≡ and_then x f
-  then_to c q h g = g ∙ ap (λ (y : Read). and_then y f) (sym h ∙ e)
 
 -- ---- bytes that are good
 module _ (good : ℕ → Bool) (good0 : good 0 ≡ false) (s : List ℕ) where
@@ -126,23 +117,13 @@ module _ (good : ℕ → Bool) (good0 : good 0 ≡ false) (s : List ℕ) where
 pub blanks_onward : (s : List ℕ) (at : ℕ) → at ≤ skip_while blank s at
 blanks_onward s at = skip_onward blank no_blank s at
 
--- ---- one byte, from lo to hi
-module _ (s : List ℕ) (lo hi at b : ℕ) (e : b ≡ byte s at) where
-  pub byte_to : within lo hi b ≡ true → to (at + 1) ≡ byte_within s lo hi at
-  unfolding byte_within
-  byte_to h = rw (← e, h)
-
-  pub byte_bad : within lo hi b ≡ false → Bad ≡ byte_within s lo hi at
-  unfolding byte_within
-  byte_bad h = rw (← e, h)
-
 -- ---- the word w from i on
 module _ (s w : List ℕ) (at i : ℕ) where
   pub literal_end : length w ≤ i → to at ≡ literal_at s (drop i w) at
   unfolding literal_at
   literal_end h = rw (drop_of_length-le w h)
 
-  pub literal_short : i < length w → length s ≤ at → Bad ≡ literal_at s (drop i w) at
+  pub literal_short : i < length w → length s ≤ at → None ≡ literal_at s (drop i w) at
   unfolding literal_at
   literal_short h l = rw (drop-cons w i 0 h, le-ltb _ _ l)
 
@@ -150,30 +131,30 @@ module _ (s w : List ℕ) (at i : ℕ) where
   unfolding literal_at
   literal_on h l e = rw (add-one i, drop-cons w i 0 h, lt-ltb _ _ l, eq-eqb _ _ e)
 
-  pub literal_not : i < length w → at < length s → (byte s at ≡ get_or w i 0 → ⊥) → Bad ≡ literal_at s (drop i w) at
+  pub literal_not : i < length w → at < length s → (byte s at ≡ get_or w i 0 → ⊥) → None ≡ literal_at s (drop i w) at
   unfolding literal_at
   literal_not h l e = rw (drop-cons w i 0 h, lt-ltb _ _ l, ne_eqb _ _ e)
 
 -- ---- no reader goes back
-pub data Onward (at : ℕ) : Read → Type 0 where
-  on_to : {c : Cursor} → at ≤ c.at → Onward at (To c)
-  on_bad : Onward at Bad
+pub data Onward (at : ℕ) : Option Cursor → Type 0 where
+  on_to : {c : Cursor} → at ≤ c.at → Onward at (Some c)
+  on_bad : Onward at None
 
-pub onward_is : {at : ℕ} {c : Cursor} → Onward at (To c) → at ≤ c.at
+pub onward_is : {at : ℕ} {c : Cursor} → Onward at (Some c) → at ≤ c.at
 onward_is (on_to h) = h
 
-pub onward_cond : {at : ℕ} {a b : Read} (t : Bool) → Onward at a → Onward at b → Onward at (cond t a b)
+pub onward_cond : {at : ℕ} {a b : (Option Cursor)} (t : Bool) → Onward at a → Onward at b → Onward at (cond t a b)
 onward_cond true p q = p
 onward_cond false p q = q
 
-pub onward_less : {at i : ℕ} {r : Read} → at ≤ i → Onward i r → Onward at r
+pub onward_less : {at i : ℕ} {r : (Option Cursor)} → at ≤ i → Onward i r → Onward at r
 onward_less h (on_to {c} p) = on_to {c = c} (omega arith)
 onward_less h on_bad = on_bad
 
-pub onward_past : {at : ℕ} {r : Read} → Onward (at + 1) r → Onward at r
+pub onward_past : {at : ℕ} {r : (Option Cursor)} → Onward (at + 1) r → Onward at r
 onward_past p = onward_less (omega arith) p
 
-pub onward_then : {at : ℕ} {r : Read} (f : ℕ → Read) → Onward at r → ((j : ℕ) → Onward j (f j)) → Onward at (and_then r f)
+pub onward_then : {at : ℕ} {r : (Option Cursor)} (f : ℕ → Option Cursor) → Onward at r → ((j : ℕ) → Onward j (f j)) → Onward at (and_then r f)
 onward_then f (on_to {c} p) g = onward_less p (g c.at)
 onward_then f on_bad g = on_bad
 

@@ -1,4 +1,5 @@
--- Steps of the definitions of specs/Group.antt, on plain variables.
+-- The close of a group, and no reader of specs/Group.antt goes back.
+use Rattle.std.specs.Prelude.{None, Some, Option}
 use mathlib.Core.Path.{◌≡◌, sym}
 use mathlib.Core.List.{List}
 use Prim.Native.Nat.{ℕ, ◌<◌, ◌+◌}
@@ -7,42 +8,21 @@ use lib.ListN.{length}
 use lib.Dec.{eqb}
 use borrow.Author.Tests.{eq-eqb, ne_eqb, eqb-true}
 use Rattle.json_blocks.specs.declared.Cursor.{Cursor}
-use Rattle.json_blocks.specs.declared.Read.TheVariants as R
 use Rattle.json_blocks.specs.declared.After.{After}
 use Rattle.json_blocks.specs.declared.After.TheVariants as A
 use Rattle.json_blocks.specs.TextBytes.{byte, skip_blanks}
 use Rattle.json_blocks.specs.Group.{after_item, colon_at}
 use Rattle.json_blocks.proofs.ByteLaws.{inside, cond_elim, blanks_onward, Onward, on_to, on_bad, onward_cond}
 
--- ---- after an item; k is where the blanks end, b the byte there
-module _ (s : List ℕ) (close at k b : ℕ) (ek : k ≡ skip_blanks s at) (eb : b ≡ byte s k) where
-  pub after_comma : (d : Cursor) → b ≡ 0x2C → d.at ≡ skip_blanks s (k + 1) → A.Item d ≡ after_item s close at
-  unfolding after_item
-  after_comma d h e = rw (← ek, ← eb, eq-eqb _ _ h, ← e)
+-- k is where the blanks end, b the byte there
+pub after_close : (s : List ℕ) (close at k b : ℕ) → k ≡ skip_blanks s at → b ≡ byte s k → (b ≡ 0x2C → ⊥) → b ≡ close → Some (A.Close (record { at = k + 1 })) ≡ after_item s close at
+unfolding after_item
+after_close s close at k b ek eb g h = rw (← ek, ← eb, ne_eqb _ _ g, eq-eqb _ _ h)
 
-  pub after_close : (b ≡ 0x2C → ⊥) → b ≡ close → A.Close (record { at = k + 1 }) ≡ after_item s close at
-  unfolding after_item
-  after_close g h = rw (← ek, ← eb, ne_eqb _ _ g, eq-eqb _ _ h)
-
-  pub after_bad : (b ≡ 0x2C → ⊥) → (b ≡ close → ⊥) → A.Bad ≡ after_item s close at
-  unfolding after_item
-  after_bad g h = rw (← ek, ← eb, ne_eqb _ _ g, ne_eqb _ _ h)
-
--- ---- a colon
-module _ (s : List ℕ) (at k b : ℕ) (ek : k ≡ skip_blanks s at) (eb : b ≡ byte s k) where
-  pub colon_to : (d : Cursor) → b ≡ 0x3A → d.at ≡ skip_blanks s (k + 1) → R.To d ≡ colon_at s at
-  unfolding colon_at
-  colon_to d h e = rw (← ek, ← eb, eq-eqb _ _ h, ← e)
-
-  pub colon_bad : (b ≡ 0x3A → ⊥) → R.Bad ≡ colon_at s at
-  unfolding colon_at
-  colon_bad h = rw (← ek, ← eb, ne_eqb _ _ h)
-
--- ---- no reader goes back
-pub data OnwardAfter (s : List ℕ) (at : ℕ) : After → Type 0 where
-  onward_item : {c : Cursor} → at < c.at → at < length s → OnwardAfter s at (A.Item c)
-  onward_close : {c : Cursor} → at < c.at → OnwardAfter s at (A.Close c)
-  onward_neither : OnwardAfter s at A.Bad
+pub data OnwardAfter (s : List ℕ) (at : ℕ) : Option After → Type 0 where
+  onward_item : {c : Cursor} → at < c.at → at < length s → OnwardAfter s at (Some (A.Item c))
+  onward_close : {c : Cursor} → at < c.at → OnwardAfter s at (Some (A.Close c))
+  onward_neither : OnwardAfter s at None
 
 pub after_onward : (s : List ℕ) (close at : ℕ) → OnwardAfter s at (after_item s close at)
 unfolding after_item

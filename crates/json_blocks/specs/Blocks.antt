@@ -22,7 +22,11 @@ all_at good (suc n) s i = good (byte s i) && all_at good n s (i + 1)
 abbrev pub block_at : (ℕ → Bool) → List ℕ → ℕ → Bool
 block_at good s i = leb (i + 8) (length s) && all_at good 8 s i
 
--- each byte from `at` up to r is plain
-pub record PlainTo (s : List ℕ) (at r : ℕ) : Type 0 where
+-- each byte from `at` up to r is good
+pub record GoodTo (good : ℕ → Bool) (s : List ℕ) (at r : ℕ) : Type 0 where
   pub onward : at ≤ r
-  pub each : (i : ℕ) → at ≤ i → i < r → plain_byte (byte s i) ≡ true
+  pub each : (i : ℕ) → at ≤ i → i < r → good (byte s i) ≡ true
+
+-- each byte from `at` up to r is plain
+abbrev pub PlainTo : List ℕ → ℕ → ℕ → Type 0
+PlainTo = GoodTo plain_byte

@@ -1,10 +1,9 @@
 -- Bytes, blanks and literals of a text s, read from the place `at` on.
-use Rattle.std.specs.Prelude.{Bool, cond, ◌&&◌, ◌||◌, List, [], ◌∷◌, ℕ, ◌+◌, length, get_or, take, drop, eqb, ltb, leb}
+use Rattle.json_blocks.specs.declared.Cursor.{Cursor}
+use Rattle.std.specs.Prelude.{Bool, cond, ◌&&◌, ◌||◌, List, [], ◌∷◌, ℕ, ◌+◌, length, get_or, take, drop, eqb, ltb, leb, None, Option, Some}
 use Prim.Native.Char.{code}
 use Prim.Native.String.{String, [] as empty, ◌∷◌ as ◌then◌}
 use Rattle.json_blocks.specs.Turns.{Turn, on, out, run_text}
-use Rattle.json_blocks.specs.declared.Read.{Read}
-use Rattle.json_blocks.specs.declared.Read.TheVariants.{To, Bad}
 
 -- the byte at a place: 0 past the end, and no token takes a 0
 abbrev pub byte : List ℕ → ℕ → ℕ
@@ -19,13 +18,13 @@ abbrev pub ascii : String → List ℕ
 ascii empty = []
 ascii (c then t) = code c ∷ ascii t
 
-abbrev pub to : ℕ → Read
-to n = To (record { at = n })
+abbrev pub to : ℕ → Option Cursor
+to n = Some (record { at = n })
 
 -- go on where a read got to
-abbrev pub and_then : Read → (ℕ → Read) → Read
-and_then (To c) f = f c.at
-and_then Bad f = Bad
+abbrev pub and_then : Option Cursor → (ℕ → Option Cursor) → Option Cursor
+and_then (Some c) f = f c.at
+and_then None f = None
 
 -- b lies from lo to hi
 unfoldable pub within : ℕ → ℕ → ℕ → Bool
@@ -46,10 +45,10 @@ abbrev pub skip_blanks : List ℕ → ℕ → ℕ
 skip_blanks = skip_while blank
 
 -- one byte from lo to hi
-unfoldable pub byte_within : List ℕ → ℕ → ℕ → ℕ → Read
-byte_within s lo hi at = cond (within lo hi (byte s at)) (to (at + 1)) Bad
+unfoldable pub byte_within : List ℕ → ℕ → ℕ → ℕ → Option Cursor
+byte_within s lo hi at = cond (within lo hi (byte s at)) (to (at + 1)) None
 
 -- the bytes of a word, one by one
-unfoldable pub literal_at : List ℕ → List ℕ → ℕ → Read
+unfoldable pub literal_at : List ℕ → List ℕ → ℕ → Option Cursor
 literal_at s [] at = to at
-literal_at s (b ∷ w) at = cond (ltb at (length s) && eqb (byte s at) b) (literal_at s w (at + 1)) Bad
+literal_at s (b ∷ w) at = cond (ltb at (length s) && eqb (byte s at) b) (literal_at s w (at + 1)) None

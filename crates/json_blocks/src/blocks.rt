@@ -1,116 +1,133 @@
-// Bytes tested eight at a time. No byte ends the loop over a block, so that it is compiled to a comparison of them all.
-ghost use Rattle.std.specs.Prelude.{◌≡◌, ◌&&◌, ◌+◌, ◌≤◌, length, leb};
-ghost use Rattle.json_blocks.specs.TextBytes.{skip_blanks};
-ghost use Rattle.json_blocks.specs.Blocks.{plain_byte, ordinary_byte, space_byte, all_at, block_at};
+// Tests of bytes: of one, of those from a place on, and of eight at once. No byte ends the loop over a block, so that it is compiled
+// to a comparison of them all.
+ghost use Rattle.std.specs.Prelude.{◌≡◌, Bool, false, ℕ, ◌&&◌, ◌+◌, ◌≤◌, length, leb};
+ghost use Rattle.json_blocks.specs.TextBytes.{blank, skip_while};
+ghost use Rattle.json_blocks.specs.Blocks.{plain_byte, ordinary_byte, space_byte, all_at, block_at, GoodTo};
+
+use crate::is_blank;
 
 // How many bytes are tested at once.
 const BLOCK: usize = 8;
 
-pub fn both(a: bool, b: bool) -> bool
-    ensures { result ≡ (a && b) }
-{
-    if a {
-        return b;
+// A test of a byte.
+pub trait ByteTest {
+    ghost holds: { ℕ → Bool };
+
+    fn test(b: u8) -> bool
+        ensures { result ≡ holds b };
+}
+
+// Space, tab, line feed, carriage return.
+pub struct Blank;
+
+impl ByteTest for Blank {
+    ghost holds = { blank };
+
+    fn test(b: u8) -> bool {
+        is_blank(b)
     }
-    false
+}
+
+pub struct Space;
+
+impl ByteTest for Space {
+    ghost holds = { space_byte };
+
+    #[tactic(auto, unfolding(crate::specs::Blocks::space_byte))]
+    fn test(b: u8) -> bool {
+        b == b' '
+    }
+}
+
+// A byte of a string that stands for itself: ASCII, and no control byte, quote or backslash.
+pub struct Plain;
+
+impl ByteTest for Plain {
+    ghost holds = { plain_byte };
+
+    fn test(b: u8) -> bool {
+        is_plain(b)
+    }
+}
+
+// A byte of a string that is no quote and no backslash.
+pub struct Ordinary;
+
+impl ByteTest for Ordinary {
+    ghost holds = { ordinary_byte };
+
+    fn test(b: u8) -> bool {
+        is_ordinary(b)
+    }
 }
 
 // A text has n bytes from a place on.
 pub fn has_room(s: &[u8], i: usize, n: usize) -> bool
     ensures { result ≡ leb (i + n) (length s.now) }
 {
-    if s.len() < n {
-        return false;
-    }
-    i <= s.len() - n
+    n <= s.len() && i <= s.len() - n
 }
 
-// A byte of a string that stands for itself: ASCII, and no control byte, quote or backslash.
+#[tactic(auto, unfolding(crate::specs::Blocks::plain_byte))]
 pub fn is_plain(b: u8) -> bool
     ensures { result ≡ plain_byte b }
 {
-    if b < 0x20 {
-        return false;
-    }
-    if 0x80 <= b {
-        return false;
-    }
-    if b == b'"' {
-        return false;
-    }
-    b != b'\\'
+    0x20 <= b && b < 0x80 && b != b'"' && b != b'\\'
 }
 
-// A byte of a string that is no quote and no backslash.
+#[tactic(auto, unfolding(crate::specs::Blocks::ordinary_byte))]
 pub fn is_ordinary(b: u8) -> bool
     ensures { result ≡ ordinary_byte b }
 {
-    if b == b'"' {
-        return false;
-    }
-    b != b'\\'
+    b != b'"' && b != b'\\'
 }
 
-fn is_space(b: u8) -> bool
-    ensures { result ≡ space_byte b }
-{
-    b == b' '
-}
-
-// The eight bytes from a place on are spaces.
-fn are_spaces(s: &[u8], i: usize) -> bool
+// The eight bytes from a place on pass a test.
+#[tactic(auto, using(crate::proofs::BlockLaws::all_on, crate::proofs::BlockLaws::all_end))]
+fn is_full<T: ByteTest>(s: &[u8], i: usize) -> bool
     requires { i + 8 ≤ length s.now }
-    ensures { result ≡ all_at space_byte 8 s.now i }
+    ensures { result ≡ all_at T.holds 8 s.now i }
 {
     let mut ok = true;
-    let mut k = 0usize;
-    while k < BLOCK {
-        let e = is_space(s[i + k]);
-        ok = both(ok, e);
-        k += 1;
+    for k in 0..BLOCK {
+        ok &= T::test(s[i + k]);
     }
     ok
 }
 
-// The eight bytes from a place on are no quotes and no backslashes.
-fn are_ordinary(s: &[u8], i: usize) -> bool
-    requires { i + 8 ≤ length s.now }
-    ensures { result ≡ all_at ordinary_byte 8 s.now i }
+// Eight bytes stand from a place on, and pass a test.
+pub fn is_block<T: ByteTest>(s: &[u8], i: usize) -> bool
+    ensures { result ≡ block_at T.holds s.now i }
 {
-    let mut ok = true;
-    let mut k = 0usize;
-    while k < BLOCK {
-        let e = is_ordinary(s[i + k]);
-        ok = both(ok, e);
-        k += 1;
-    }
-    ok
+    has_room(s, i, BLOCK) && is_full::<T>(s, i)
 }
 
-// Eight such bytes stand from a place on.
 pub fn is_ordinary_block(s: &[u8], i: usize) -> bool
     ensures { result ≡ block_at ordinary_byte s.now i }
 {
-    if has_room(s, i, BLOCK) {
-        return are_ordinary(s, i);
-    }
-    false
+    is_block::<Ordinary>(s, i)
 }
 
-// Past blocks of spaces.
-pub(crate) fn skip_spaces(s: &[u8], at: usize) -> usize
-    ensures { skip_blanks s.now result ≡ skip_blanks s.now at }
+// Past blocks of bytes that pass a test.
+pub fn skip_blocks<T: ByteTest>(s: &[u8], at: usize) -> usize
+    ensures { GoodTo T.holds s.now at result }
 {
     let mut i = at;
-    loop {
-        if has_room(s, i, BLOCK) {
-            if are_spaces(s, i) {
-                i += BLOCK;
-            } else {
-                return i;
-            }
-        } else {
-            return i;
-        }
+    while is_block::<T>(s, i) {
+        i += BLOCK;
     }
+    i
+}
+
+// Past the bytes that pass a test, if 0 fails it.
+#[tactic(auto, using(crate::proofs::ByteLaws::skip_on, crate::proofs::ByteLaws::skip_out, crate::proofs::ByteLaws::skip_end))]
+pub fn skip_while<T: ByteTest>(s: &[u8], at: usize) -> usize
+    ensures { T.holds 0 ≡ false → result ≡ skip_while T.holds s.now at }
+{
+    // An index by hand: `take_while` and `count` over the rest run a half more instructions.
+    let mut i = at;
+    while i < s.len() && T::test(s[i]) {
+        i += 1;
+    }
+    i
 }

@@ -8,7 +8,7 @@ mod group;
 ghost use Rattle.std.specs.Prelude.{◌≡◌, get_or};
 ghost use Rattle.json_blocks.specs.TextBytes.{within, blank, skip_blanks, literal_at};
 
-use crate::blocks::skip_spaces;
+use crate::blocks::{Blank, Space, skip_blocks, skip_while};
 
 // A place in a text.
 #[derive(Clone, Copy)]
@@ -16,102 +16,74 @@ pub struct Cursor {
     pub at: usize,
 }
 
-// Where a token ends, or that none stands there.
-#[derive(Clone, Copy)]
-pub enum Read {
-    To(Cursor),
-    Bad,
-}
-
 // What stands after an item of an array or object: a comma and then an item, or the close.
 #[derive(Clone, Copy)]
 pub enum After {
     Item(Cursor),
     Close(Cursor),
-    Bad,
 }
 
 // The byte at a place, 0 past the end.
 pub fn peek(s: &[u8], at: usize) -> u8
     ensures { result ≡ get_or s.now at 0 }
 {
-    if at < s.len() { s[at] } else { 0 }
+    s.get(at).copied().unwrap_or(0)
 }
 
+#[tactic(auto, unfolding(crate::specs::TextBytes::within))]
 pub fn is_within(lo: u8, hi: u8, b: u8) -> bool
     ensures { result ≡ within lo hi b }
 {
-    if b < lo {
-        return false;
-    }
-    b <= hi
+    lo <= b && b <= hi
 }
 
+#[tactic(auto, unfolding(crate::specs::TextBytes::within))]
 pub fn code_within(lo: usize, hi: usize, n: usize) -> bool
     ensures { result ≡ within lo hi n }
 {
-    if n < lo {
-        return false;
-    }
-    n <= hi
+    lo <= n && n <= hi
 }
 
+// With `||` this is compiled to one test of a bit, and with `matches!` to three comparisons.
+#[tactic(auto, unfolding(crate::specs::TextBytes::blank))]
 pub fn is_blank(b: u8) -> bool
     ensures { result ≡ blank b }
 {
-    if b == b' ' {
-        return true;
-    }
-    if b == b'\t' {
-        return true;
-    }
-    if b == b'\n' {
-        return true;
-    }
-    b == b'\r'
+    b == b' ' || b == b'\t' || b == b'\n' || b == b'\r'
 }
 
 impl Cursor {
+    #[tactic(auto, using(crate::proofs::ByteLaws::no_blank))]
     pub fn skip_blanks(self, s: &[u8]) -> Cursor
         ensures { result.at ≡ skip_blanks s.now self.at }
     {
-        let mut i = self.at;
-        while is_blank(peek(s, i)) {
-            i += 1;
-        }
-        Cursor { at: i }
+        let at = skip_while::<Blank>(s, self.at);
+        Cursor { at }
     }
 
     // The same, quickly past a line feed and the spaces that begin the next line.
     pub fn skip_indent(self, s: &[u8]) -> Cursor
         ensures { result.at ≡ skip_blanks s.now self.at }
     {
-        let at = self.at;
-        let b = peek(s, at);
-        if b == b'\n' {
-            let i = skip_spaces(s, at + 1);
+        if peek(s, self.at) == b'\n' {
+            let i = skip_blocks::<Space>(s, self.at + 1);
             return Cursor { at: i }.skip_blanks(s);
         }
         self.skip_blanks(s)
     }
 
     // The bytes of word.
-    pub fn literal(self, s: &[u8], word: &[u8]) -> Read
+    #[tactic(auto, using(crate::proofs::ByteLaws::literal_end, crate::proofs::ByteLaws::literal_short, crate::proofs::ByteLaws::literal_on, crate::proofs::ByteLaws::literal_not))]
+    pub fn literal(self, s: &[u8], word: &[u8]) -> Option<Cursor>
         ensures { result ≡ literal_at s.now word.now self.at }
     {
         let mut at = self.at;
-        let mut i = 0;
-        while i < word.len() {
-            if s.len() <= at {
-                return Read::Bad;
+        for b in word {
+            if s.get(at) != Some(b) {
+                return None;
             }
-            if s[at] == word[i] {
-                at += 1;
-                i += 1;
-            } else {
-                return Read::Bad;
-            }
+            at += 1;
         }
-        Read::To(Cursor { at: at })
+        Some(Cursor { at })
     }
 }

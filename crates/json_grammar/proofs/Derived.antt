@@ -1,4 +1,5 @@
 -- Lists that a production derives, where they stand in a text, and reads that got on over such a list.
+use Rattle.std.specs.Prelude.{None, Option, Some}
 use mathlib.Core.Path.{◌≡◌, sym, ap, subst, ◌∙◌}
 use mathlib.Core.List.{List, [], ◌∷◌, ◌++◌, append-nil}
 use Prim.Native.Nat.{ℕ, suc, ◌≤◌, ◌<◌, ◌+◌}
@@ -7,8 +8,6 @@ use lib.ListN.{length, drop, take, drop_of_length-le}
 use lib.Seq.{take-append_seam, drop-length}
 use Rattle.json_blocks.specs.TextBytes.{byte, to, and_then}
 use Rattle.json_blocks.specs.declared.Cursor.{Cursor}
-use Rattle.json_blocks.specs.declared.Read.{Read}
-use Rattle.json_blocks.specs.declared.Read.TheVariants.{To, Bad}
 use Rattle.json_blocks.proofs.ByteLaws.{inside}
 use Rattle.json_grammar.specs.Stands.{Stands}
 use Rattle.json_grammar.proofs.Stands.{stands_one, stands_byte, stands_join, stands_head, stands_inside}
@@ -64,20 +63,20 @@ module _ {P : List ℕ → Type 0} {s : List ℕ} {i j : ℕ} where
   derived_after q (derived p r) = derived p (stands_join s q r)
 
 -- ---- what holds of the place that a read got to
-pub data Got (P : ℕ → Type 0) : Read → Type 0 where
-  got : {c : Cursor} → P c.at → Got P (To c)
-  not_got : Got P Bad
+pub data Got (P : ℕ → Type 0) : Option Cursor → Type 0 where
+  got : {c : Cursor} → P c.at → Got P (Some c)
+  not_got : Got P None
 
 pub got_to_lem : {P : ℕ → Type 0} {n : ℕ} → P n → Got P (to n)
 got_to_lem {P} {n} p = got {c = record { at = n }} p
 
-pub got_map : {P Q : ℕ → Type 0} {r : Read} → ((j : ℕ) → P j → Q j) → Got P r → Got Q r
+pub got_map : {P Q : ℕ → Type 0} {r : (Option Cursor)} → ((j : ℕ) → P j → Q j) → Got P r → Got Q r
 got_map f (got {c} p) = got {c = c} (f c.at p)
 got_map f not_got = not_got
 
-pub got_then : {P Q : ℕ → Type 0} {r : Read} (f : ℕ → Read) → Got P r → ((j : ℕ) → P j → Got Q (f j)) → Got Q (and_then r f)
+pub got_then : {P Q : ℕ → Type 0} {r : (Option Cursor)} (f : ℕ → Option Cursor) → Got P r → ((j : ℕ) → P j → Got Q (f j)) → Got Q (and_then r f)
 got_then f (got {c} p) g = g c.at p
 got_then f not_got g = not_got
 
-pub got_is : {P : ℕ → Type 0} {c : Cursor} → Got P (To c) → P c.at
+pub got_is : {P : ℕ → Type 0} {c : Cursor} → Got P (Some c) → P c.at
 got_is (got p) = p

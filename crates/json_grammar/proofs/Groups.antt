@@ -1,4 +1,5 @@
 -- Arrays and objects, whatever their items are: what the reader finds is a group, and a group is found.
+use Rattle.std.specs.Prelude.{None, Option, Some}
 use mathlib.Core.Path.{◌≡◌, refl, sym, ap, ◌∙◌}
 use mathlib.Core.Bool.{false, cond}
 use mathlib.Core.List.{List, [], ◌∷◌, ◌++◌}
@@ -8,8 +9,6 @@ use lib.ListN.{length}
 use lib.Dec.{eqb}
 use borrow.Author.Tests.{eq-eqb, ne_eqb, eqb-true}
 use Rattle.json_blocks.specs.declared.Cursor.{Cursor}
-use Rattle.json_blocks.specs.declared.Read.{Read}
-use Rattle.json_blocks.specs.declared.Read.TheVariants as R
 use Rattle.json_blocks.specs.declared.After.{After}
 use Rattle.json_blocks.specs.declared.After.TheVariants as A
 use Rattle.json_blocks.specs.Turns.{after_turn as turned, run_turns, run_text}
@@ -32,10 +31,10 @@ use Rattle.json_grammar.proofs.Strings.{string_sound, string_complete}
 data Parted (b : ℕ) (s : List ℕ) (i j : ℕ) : Type 0 where
   parted : {k : ℕ} → Derived Blanks s i k → byte s k ≡ b → Derived Blanks s (k + 1) j → Parted b s i j
 
-data Next (s : List ℕ) (close i : ℕ) : After → Type 0 where
-  an_item : {c : Cursor} → Parted 0x2C s i c.at → Next s close i (A.Item c)
-  a_close : {k : ℕ} → Derived Blanks s i k → byte s k ≡ close → Next s close i (A.Close (record { at = k + 1 }))
-  neither : Next s close i A.Bad
+data Next (s : List ℕ) (close i : ℕ) : Option After → Type 0 where
+  an_item : {c : Cursor} → Parted 0x2C s i c.at → Next s close i (Some (A.Item c))
+  a_close : {k : ℕ} → Derived Blanks s i k → byte s k ≡ close → Next s close i (Some (A.Close (record { at = k + 1 })))
+  neither : Next s close i None
 
 after_sound : (s : List ℕ) (close i : ℕ) → Next s close i (after_item s close i)
 unfolding after_item
@@ -53,12 +52,12 @@ module _ {s : List ℕ} {i j k : ℕ} {Item : List ℕ → Type 0} where
   member_of_lem (derived p q) (parted (derived a t) e (derived b u)) (derived v x) =
       derived (member p a b v) (stands_join s q (stands_join s t (stands_cons e (omega arith) (stands_join s u x))))
 
-module _ {s : List ℕ} {item : ℕ → Read} {Item : List ℕ → Type 0} (sound : (i : ℕ) → Got (Derived Item s i) (item i)) where
+module _ {s : List ℕ} {item : ℕ → (Option Cursor)} {Item : List ℕ → Type 0} (sound : (i : ℕ) → Got (Derived Item s i) (item i)) where
   pub member_sound : (i : ℕ) → Got (Derived (Member Item) s i) (member_at item s i)
   unfolding member_at name_at colon_at
   member_sound i = cond_elim (λ m. Got (Derived (Member Item) s i) (and_then m item)) (eqb (byte s i) 0x22) _ _ (λ e. go (string_sound s i (eqb-true _ _ e))) (λ _. not_got)
     where
-      go : {r : Read} → Got (Derived String s i) r
+      go : {r : (Option Cursor)} → Got (Derived String s i) r
           → Got (Derived (Member Item) s i) (and_then (and_then r (colon_at s)) item)
       go (got {c} p) =
           cond_elim (λ r. Got (Derived (Member Item) s i) (and_then r item))
@@ -68,18 +67,18 @@ module _ {s : List ℕ} {item : ℕ → Read} {Item : List ℕ → Type 0} (soun
       go not_got = not_got
 
   module _ (close : ℕ) where
-    items_sound : (n i : ℕ) → Got (Closed (Items Item) close s i) (run_turns R.Bad (item_turn item s close) n i)
+    items_sound : (n i : ℕ) → Got (Closed (Items Item) close s i) (run_turns None (item_turn item s close) n i)
     unfolding run_turns item_turn
     items_sound zero i = not_got
     items_sound (suc n) i = go (sound i) (items_sound n) where
-      follow : {j : ℕ} {a : After} (f : ℕ → Read) → Derived Item s i j → Next s close j a → ((k : ℕ) → Got (Closed (Items Item) close s k) (f k))
-          → Got (Closed (Items Item) close s i) (turned {A = Read} (close_turn a) f)
+      follow : {j : ℕ} {a : (Option After)} (f : ℕ → Option Cursor) → Derived Item s i j → Next s close j a → ((k : ℕ) → Got (Closed (Items Item) close s k) (f k))
+          → Got (Closed (Items Item) close s i) (turned {A = (Option Cursor)} (close_turn a) f)
       follow f p (an_item {c} m) g = got_map (λ k r. more_of p m r) (g c.at)
       follow f (derived p q) (a_close (derived a t) e) g = got_to_lem (closed (derived (last p a) (stands_join s q t)) e)
       follow f p neither g = not_got
 
-      go : {r : Read} → Got (Derived Item s i) r → ((k : ℕ) → Got (Closed (Items Item) close s k) (run_turns R.Bad (item_turn item s close) n k))
-          → Got (Closed (Items Item) close s i) (turned {A = Read} (then_turn r (λ j. close_turn (after_item s close j))) (λ k. run_turns R.Bad (item_turn item s close) n k))
+      go : {r : (Option Cursor)} → Got (Derived Item s i) r → ((k : ℕ) → Got (Closed (Items Item) close s k) (run_turns None (item_turn item s close) n k))
+          → Got (Closed (Items Item) close s i) (turned {A = (Option Cursor)} (then_turn r (λ j. close_turn (after_item s close j))) (λ k. run_turns None (item_turn item s close) n k))
       go (got {c} p) g = follow _ p (after_sound s close c.at) g
       go not_got g = not_got
 
@@ -126,7 +125,7 @@ module _ {s : List ℕ} {b i j : ℕ} {w : List ℕ} where
   followed : (x : List ℕ) → Ends b → Blanks w → Stands s i (w ++ (b ∷ x)) j → Ends (byte s i)
   followed x h p q = blanks_first Ends blank_ends p (stands_left s w (b ∷ x) q) (rw (stands_head s (stands_right s w (b ∷ x) q)) h)
 
-item_after : {s : List ℕ} {i j : ℕ} {x : List ℕ} (close : ℕ) → Apart s 0x2C i x j → after_item s close i ≡ A.Item (record { at = skip_blanks s (skip_blanks s i + 1) })
+item_after : {s : List ℕ} {i j : ℕ} {x : List ℕ} (close : ℕ) → Apart s 0x2C i x j → after_item s close i ≡ Some (A.Item (record { at = skip_blanks s (skip_blanks s i + 1) }))
 unfolding after_item
 item_after close y = rw (eq-eqb _ _ y.mark)
 
@@ -135,7 +134,7 @@ pub record First (close b : ℕ) : Type 0 where
   pub solid : 0x21 ≤ b
   pub inner : b ≡ close → ⊥
 
-module _ {s : List ℕ} {item : ℕ → Read} {Item : List ℕ → Type 0} (close : ℕ) (high : 0x2C < close) (ends : Ends close)
+module _ {s : List ℕ} {item : ℕ → (Option Cursor)} {Item : List ℕ → Type 0} (close : ℕ) (high : 0x2C < close) (ends : Ends close)
     (first : (x : List ℕ) (i j : ℕ) → Item x → Stands s i x j → First close (byte s i))
     (complete : (x : List ℕ) (i j : ℕ) → Item x → Stands s i x j → Ends (byte s j) → item i ≡ to j) where
   items_first : {xs : List ℕ} {i j : ℕ} → Items Item xs → Stands s i xs j → First close (byte s i)
@@ -143,7 +142,7 @@ module _ {s : List ℕ} {item : ℕ → Read} {Item : List ℕ → Type 0} (clos
   items_first (more {x} {w} {u} {xs} p a b r) q = first x _ _ p (stands_left s x (w ++ (0x2C ∷ (u ++ xs))) q)
 
   items_complete : (n : ℕ) {xs : List ℕ} {i k : ℕ} → Items Item xs → Stands s i xs k → byte s k ≡ close → length s - i < n
-      → run_turns R.Bad (item_turn item s close) n i ≡ to (k + 1)
+      → run_turns None (item_turn item s close) n i ≡ to (k + 1)
   unfolding run_turns item_turn
   items_complete zero p q e h = absurd (omega arith)
   items_complete (suc n) {k} (last {x} {w} p a) q e h =
@@ -184,7 +183,7 @@ member_first {s} (member {n} {w} {u} {v} p a b r) q =
     let e = (string_complete p (stands_left s n (w ++ (0x3A ∷ (u ++ v))) q)).0 in
     omega arith
 
-pub member_complete : {s x : List ℕ} {value : ℕ → Read} {Value : List ℕ → Type 0} {i j : ℕ}
+pub member_complete : {s x : List ℕ} {value : ℕ → (Option Cursor)} {Value : List ℕ → Type 0} {i j : ℕ}
     → ((v : List ℕ) (k : ℕ) → Value v → Stands s k v j → 0x21 ≤ byte s k) → ((v : List ℕ) (k : ℕ) → Value v → Stands s k v j → value k ≡ to j)
     → Member Value x → Stands s i x j → member_at value s i ≡ to j
 unfolding member_at name_at colon_at

@@ -1,4 +1,5 @@
 -- Strings: what the reader finds is a string, and a string is found.
+use Rattle.std.specs.Prelude.{None, Option, Some}
 use mathlib.Core.Path.{◌≡◌, refl, sym, ap, subst, ◌∙◌}
 use mathlib.Core.Bool.{Bool, true, false, cond}
 use mathlib.Core.List.{List, [], ◌∷◌, ◌++◌}
@@ -8,16 +9,12 @@ use lib.ListN.{length}
 use lib.Dec.{eqb, ltb, leb}
 use borrow.Author.Tests.{ne_eqb, eqb-true, eqb-false, ltb-true, ltb-false, leb-true, leb-false}
 use Rattle.json_blocks.specs.declared.Cursor.{Cursor}
-use Rattle.json_blocks.specs.declared.Read.{Read}
-use Rattle.json_blocks.specs.declared.Read.TheVariants.{Bad}
-use Rattle.json_characters.specs.declared.Hex4.{Hex4}
-use Rattle.json_characters.specs.declared.Hex4.TheVariants as H
 use Rattle.json_blocks.specs.Turns.{out, after_turn, run_turns, run_text}
 use Rattle.json_blocks.specs.TextBytes.{byte, to, and_then, within, byte_within}
 use Rattle.json_characters.specs.String.{two_bytes, three_bytes, multibyte_at, hex_value, hex4_at, after_hex4, low_surrogate_at, unicode_escape_at, short_escape, escape_at, character_at}
 use Rattle.json_characters.specs.String.{onward, string_turn, string_at}
 use Rattle.json_blocks.proofs.ByteLaws.{inside, cond_elim, good_inside, within_from, within_below, within_above}
-use Rattle.json_characters.proofs.StringLaws.{hex_inside, hex4_5, low_4, unicode_pair, unicode_one, escape_short, escape_unicode, no_short}
+use Rattle.json_characters.proofs.StringLaws.{hex_inside, hex4_is, low_is, unicode_pair, unicode_one, escape_short, escape_unicode, no_short}
 use Rattle.json_characters.proofs.StringLaws.{character_escape, character_plain, character_wide, string_close, string_on}
 use Rattle.json_grammar.specs.Grammar.{Between, HexDigit, decimal, capital, small, CodeUnit, code_unit, Multibyte, row2, row3, row4, row5, row6, row7, row8, row9}
 use Rattle.json_grammar.specs.Grammar.{Short, quotation_mark, reverse_solidus, solidus, backspace, form_feed, new_line, return, tabulation}
@@ -36,7 +33,7 @@ module _ (s : List ℕ) (lo hi i : ℕ) (P : List ℕ → Type 0) (h : 0 < lo) w
       cond_elim (Got (Derived P s i)) (within lo hi (byte s i)) _ _
       (λ e. let w = between_is e in got_to_lem (derived (f (byte s i) w) (stands_here refl (omega (arith, w.low))))) (λ e. not_got)
 
-  byte_then : (g : ℕ → Read) → ((b : ℕ) → Between lo hi b → Got (Derived (λ xs. P (b ∷ xs)) s (i + 1)) (g (i + 1))) → Got (Derived P s i) (and_then (byte_within s lo hi i) g)
+  byte_then : (g : ℕ → Option Cursor) → ((b : ℕ) → Between lo hi b → Got (Derived (λ xs. P (b ∷ xs)) s (i + 1)) (g (i + 1))) → Got (Derived P s i) (and_then (byte_within s lo hi i) g)
   unfolding byte_within
   byte_then g f =
       cond_elim (λ r. Got (Derived P s i) (and_then r g)) (within lo hi (byte s i)) _ _
@@ -68,7 +65,7 @@ multibyte_sound b s i =
     P : List ℕ → Type 0
     P xs = Character (b ∷ xs)
 
-    G : Read → Type 0
+    G : Option Cursor → Type 0
     G r = Got (Derived P s i) r
 
 -- ---- escapes, sound
@@ -84,9 +81,9 @@ digit_sound b =
     P n = n ≤ 15 → HexDigit b n
 
 -- four hexadecimal digits that were read make a code unit
-data GotHex (s : List ℕ) (i : ℕ) : Hex4 → Type 0 where
-  got_hex : {n : ℕ} {c : Cursor} → Derived (λ xs. CodeUnit (0x5C ∷ (0x75 ∷ xs)) n) s i c.at → GotHex s i (H.Code n c)
-  not_hex : GotHex s i H.Bad
+data GotHex (s : List ℕ) (i : ℕ) : Option (ℕ × Cursor) → Type 0 where
+  got_hex : {n : ℕ} {c : Cursor} → Derived (λ xs. CodeUnit (0x5C ∷ (0x75 ∷ xs)) n) s i c.at → GotHex s i (Some (n, c))
+  not_hex : GotHex s i None
 
 hex4_sound : (s : List ℕ) (i : ℕ) → GotHex s i (hex4_at s i)
 unfolding hex4_at
@@ -139,7 +136,7 @@ low_sound s i P f =
         stands_join s (stands_here e (omega arith))
         (subst (λ (b : ℕ). Stands s (i + 1) (b ∷ []) (i + 2)) g (stands_at i 1 (inside s (i + 1) 0x75 (sym g) (omega arith))))
 
-    go : {x : Hex4} → byte s i ≡ 0x5C → byte s (i + 1) ≡ 0x75 → GotHex s (i + 2) x → Got (Derived P s i) (after_hex4 x (λ n j. cond (within 0xDC00 0xDFFF n) (to j) Bad))
+    go : {x : (Option (ℕ × Cursor))} → byte s i ≡ 0x5C → byte s (i + 1) ≡ 0x75 → GotHex s (i + 2) x → Got (Derived P s i) (after_hex4 x (λ n j. cond (within 0xDC00 0xDFFF n) (to j) None))
     go e g (got_hex {n} {c} (derived p q)) =
         cond_elim (Got (Derived P s i)) (within 0xDC00 0xDFFF n) _ _ (λ h. got_to_lem (derived (f _ n p (between_is h)) (stands_join s (two e g) q))) (λ _. not_got)
     go e g not_hex = not_got
@@ -147,10 +144,10 @@ low_sound s i P f =
 unicode_sound : (s : List ℕ) (i : ℕ) → Got (Derived (λ xs. Character (0x5C ∷ (0x75 ∷ xs))) s i) (unicode_escape_at s i)
 unfolding unicode_escape_at
 unicode_sound s i = go (hex4_sound s i) where
-  G : Read → Type 0
+  G : Option Cursor → Type 0
   G r = Got (Derived (λ xs. Character (0x5C ∷ (0x75 ∷ xs))) s i) r
 
-  go : {x : Hex4} → GotHex s i x → G (after_hex4 x (λ n j. cond (within 0xD800 0xDBFF n) (low_surrogate_at s j) (cond (within 0xDC00 0xDFFF n) Bad (to j))))
+  go : {x : (Option (ℕ × Cursor))} → GotHex s i x → G (after_hex4 x (λ n j. cond (within 0xD800 0xDBFF n) (low_surrogate_at s j) (cond (within 0xDC00 0xDFFF n) None (to j))))
   go (got_hex {n} {c} (derived {xs = u} p q)) =
       cond_elim G (within 0xD800 0xDBFF n) _ _
       (λ e. got_map (λ j r. derived_after q r)
@@ -172,7 +169,7 @@ escape_sound s i =
     (λ e. got_to_lem (derived (short (short_sound (byte s i) e)) (stands_one s i (good_inside short_escape no_short s i (byte s i) refl e))))
     (λ _. cond_elim G (eqb (byte s i) 0x75) _ _ (λ e. got_map (λ j p. derived_cons (eqb-true _ _ e) (omega arith) p) (unicode_sound s (i + 1))) (λ _. not_got))
   where
-    G : Read → Type 0
+    G : Option Cursor → Type 0
     G r = Got (Derived (λ xs. Character (0x5C ∷ xs)) s i) r
 
 pub character_sound : (s : List ℕ) (i : ℕ) → (byte s i ≡ 0x22 → ⊥) → Got (Derived Character s i) (character_at s i)
@@ -187,24 +184,24 @@ character_sound s i h =
     got_to_lem (derived (plain (omega arith) h (eqb-false _ _ e)) (stands_here refl (omega arith))))
     (λ l. let m = ltb-false (byte s i) 0x80 l in got_map (λ j p. derived_cons refl (omega arith) p) (multibyte_sound (byte s i) s (i + 1)))))
   where
-    G : Read → Type 0
+    G : Option Cursor → Type 0
     G r = Got (Derived Character s i) r
 
 -- ---- strings, sound
 one_more_lem : {s : List ℕ} {i j k : ℕ} → Derived Character s i j → Closed Characters 0x22 s j k → Closed Characters 0x22 s i k
 one_more_lem {s} (derived p q) (closed (derived r t) e) = closed (derived (characters p r) (stands_join s q t)) e
 
-characters_sound : (s : List ℕ) (n i : ℕ) → Got (Closed Characters 0x22 s i) (run_turns Bad (string_turn s) n i)
+characters_sound : (s : List ℕ) (n i : ℕ) → Got (Closed Characters 0x22 s i) (run_turns None (string_turn s) n i)
 unfolding run_turns string_turn
 characters_sound s zero i = not_got
 characters_sound s (suc n) i = go (eqb (byte s i) 0x22) refl (characters_sound s n) where
-  next : {r : Read} → Got (Derived Character s i) r → ((j : ℕ) → Got (Closed Characters 0x22 s j) (run_turns Bad (string_turn s) n j))
-      → Got (Closed Characters 0x22 s i) (after_turn {A = Read} (onward r) (λ j. run_turns Bad (string_turn s) n j))
+  next : {r : (Option Cursor)} → Got (Derived Character s i) r → ((j : ℕ) → Got (Closed Characters 0x22 s j) (run_turns None (string_turn s) n j))
+      → Got (Closed Characters 0x22 s i) (after_turn {A = (Option Cursor)} (onward r) (λ j. run_turns None (string_turn s) n j))
   next (got {c} p) f = got_map (λ k q. one_more_lem p q) (f c.at)
   next not_got f = not_got
 
-  go : (t : Bool) → eqb (byte s i) 0x22 ≡ t → ((j : ℕ) → Got (Closed Characters 0x22 s j) (run_turns Bad (string_turn s) n j))
-      → Got (Closed Characters 0x22 s i) (after_turn {A = Read} (cond t (out (to (i + 1))) (onward (character_at s i))) (λ j. run_turns Bad (string_turn s) n j))
+  go : (t : Bool) → eqb (byte s i) 0x22 ≡ t → ((j : ℕ) → Got (Closed Characters 0x22 s j) (run_turns None (string_turn s) n j))
+      → Got (Closed Characters 0x22 s i) (after_turn {A = (Option Cursor)} (cond t (out (to (i + 1))) (onward (character_at s i))) (λ j. run_turns None (string_turn s) n j))
   go true e f = got_to_lem (closed (derived no_characters (stands_none s i)) (eqb-true _ _ e))
   go false e f = next (character_sound s i (eqb-false _ _ e)) f
 
@@ -277,13 +274,13 @@ digit_complete (capital {b} p) = rw (within_above 48 57 b (omega arith), is_betw
 digit_complete (small {b} p) = rw (within_above 48 57 b (omega arith), within_above 65 70 b (omega arith), is_between p) (omega arith)
 
 hex4_complete : {s : List ℕ} {k j a b c d w x y z : ℕ} → HexDigit a w → HexDigit b x → HexDigit c y → HexDigit d z → Stands s k (a ∷ (b ∷ (c ∷ (d ∷ [])))) j
-    → hex4_at s k ≡ H.Code (((w * 16 + x) * 16 + y) * 16 + z) (record { at = j })
+    → hex4_at s k ≡ Some ((((w * 16 + x) * 16 + y) * 16 + z), (record { at = j }))
 hex4_complete {s} {k} {j} {a} {b} {c} {d} {w} {x} {y} {z} p q r t u =
     let u₁ = stands_right s (a ∷ []) (b ∷ (c ∷ (d ∷ []))) u in
     let u₂ = stands_right s (a ∷ (b ∷ [])) (c ∷ (d ∷ [])) u in
     let u₃ = stands_right s (a ∷ (b ∷ (c ∷ []))) (d ∷ []) u in
     sym
-    (hex4_5 s k w (at p (stands_head s u)) x (hex_limit p) (at q (stands_head s u₁)) y (hex_limit q) (at r (stands_head s u₂)) z (hex_limit r) (at t (stands_head s u₃))
+    (hex4_is s k w (at p (stands_head s u)) x (hex_limit p) (at q (stands_head s u₁)) y (hex_limit q) (at r (stands_head s u₂)) z (hex_limit r) (at t (stands_head s u₃))
     (hex_limit t))
     ∙ rw (sym u.end)
   where
@@ -294,7 +291,7 @@ hex4_complete {s} {k} {j} {a} {b} {c} {d} {w} {x} {y} {z} p q r t u =
 pub record CodeAt (s : List ℕ) (i n j : ℕ) : Type 0 where
   pub slash : byte s i ≡ 0x5C
   pub letter : byte s (i + 1) ≡ 0x75
-  pub code : hex4_at s (i + 2) ≡ H.Code n (record { at = j })
+  pub code : hex4_at s (i + 2) ≡ Some (n, (record { at = j }))
 
 pub unit_complete : {s : List ℕ} {i j n : ℕ} {u : List ℕ} → CodeUnit u n → Stands s i u j → CodeAt s i n j
 unit_complete {s} (code_unit {a} {b} {c} {d} p q r t) u = record {
@@ -347,7 +344,7 @@ character_complete {s} {i} {j} (surrogates {u} {v} {n} {m} p h r k) q =
     let l = unit_complete r (stands_right s u v q) in
     escaped c
     (unicode_pair s (i + 2) _ refl n _ c.code (to j) (is_between h)
-    (low_4 s _ _ (sym l.slash) _ refl (sym l.letter) _ refl refl m (record { at = j }) l.code (is_between k)))
+    (low_is s _ _ (sym l.slash) _ refl (sym l.letter) _ refl refl m (record { at = j }) l.code (is_between k)))
 
 -- ---- strings, complete
 characters_complete : {s : List ℕ} {i k : ℕ} {cs : List ℕ} → Characters cs → Stands s i cs k → byte s k ≡ 0x22 → string_at s i ≡ to (k + 1)

@@ -1,4 +1,6 @@
 -- The reading of texts by place and the grammar of ECMA-404 are one.
+use Rattle.json_blocks.specs.declared.Cursor.{Cursor}
+use Rattle.std.specs.Prelude.{Option}
 use mathlib.Core.Path.{◌≡◌, subst}
 use mathlib.Core.Bool.{true}
 use mathlib.Core.Logic.{◌↔◌}
@@ -8,7 +10,6 @@ use native.Mathlib.Omega.{arith}
 use lib.ListN.{length, get_or-eq_default}
 use borrow.Author.Tests.{leb-true, le-leb}
 use Rattle.limits.specs.Limits.{nesting}
-use Rattle.json_blocks.specs.declared.Read.{Read}
 use Rattle.json_blocks.specs.TextBytes.{byte, to, skip_blanks}
 use Rattle.json_blocks.proofs.ByteLaws.{no_blank}
 use Rattle.json_grammar.specs.Grammar.{Blanks, Value, Text, text}
@@ -27,7 +28,7 @@ text_sound d s e = go (blanks_sound s 0) (value_got d s (skip_blanks s 0)) e whe
   whole : {i j k : ℕ} → Derived Blanks s 0 i → Derived (Value d) s i j → Derived Blanks s j k → length s ≤ k → Text d s
   whole (derived a p) (derived b q) (derived c r) h = subst (Text d) (stands_whole (stands_join s p (stands_join s q r)) h) (text _ a b c)
 
-  go : {i : ℕ} {r : Read} → Derived Blanks s 0 i → Got (Derived (Value d) s i) r → ends_text s r ≡ true → Text d s
+  go : {i : ℕ} {r : (Option Cursor)} → Derived Blanks s 0 i → Got (Derived (Value d) s i) r → ends_text s r ≡ true → Text d s
   go a (got {c} b) e = whole a b (blanks_sound s c.at) (leb-true _ _ e)
   go a not_got e = let z : ◌≡◌ {A = ℕ} 0 1 = cc in absurd (omega arith)
 

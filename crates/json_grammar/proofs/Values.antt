@@ -1,4 +1,5 @@
 -- Values: what the reader finds is a value, and a value is found.
+use Rattle.std.specs.Prelude.{Option, Some}
 use mathlib.Core.Path.{◌≡◌, refl}
 use mathlib.Core.Bool.{Bool, true, false, ◌&&◌}
 use mathlib.Core.List.{List, [], ◌∷◌}
@@ -8,8 +9,6 @@ use lib.ListN.{length}
 use lib.Dec.{eqb, ltb}
 use borrow.Author.Tests.{eq-eqb, ne_eqb, lt-ltb, eqb-true, ltb-true}
 use Rattle.json_blocks.specs.declared.Cursor.{Cursor}
-use Rattle.json_blocks.specs.declared.Read.{Read}
-use Rattle.json_blocks.specs.declared.Read.TheVariants.{To}
 use Rattle.json_blocks.specs.TextBytes.{byte, ascii, to, within, literal_at}
 use Rattle.json_blocks.proofs.ByteLaws.{cond_elim}
 use Rattle.json_grammar.specs.Grammar.{Between, AnyValue, an_object, an_array, a_number, a_string, a_true, a_false, a_null, Value}
@@ -39,7 +38,7 @@ literal_complete s [] q = rw (stands_nil q)
 literal_complete s (b ∷ w) q = rw (lt-ltb _ _ (stands_inside s q), eq-eqb _ _ (stands_head s q)) (literal_complete s w (stands_tail s q))
 
 -- ---- one level, sound
-module _ {s : List ℕ} {i : ℕ} {AnArray AnObject : List ℕ → Type 0} (array object : ℕ → Read) where
+module _ {s : List ℕ} {i : ℕ} {AnArray AnObject : List ℕ → Type 0} (array object : ℕ → Option Cursor) where
   any_sound : (byte s i ≡ 0x5B → Got (Derived AnArray s i) (array (i + 1))) → (byte s i ≡ 0x7B → Got (Derived AnObject s i) (object (i + 1)))
       → Got (Derived (AnyValue AnArray AnObject) s i) (any_value_at array object s i)
   unfolding any_value_at
@@ -52,7 +51,7 @@ module _ {s : List ℕ} {i : ℕ} {AnArray AnObject : List ℕ → Type 0} (arra
       (λ _. cond_elim G (eqb (byte s i) 0x6E) _ _ (λ e. got_map (λ j p. derived a_null p) (literal_sound s (ascii "null") i))
       (λ _. got_map (λ j p. put p (λ x. a_number)) (number_sound s i)))))))
     where
-      G : Read → Type 0
+      G : Option Cursor → Type 0
       G r = Got (Derived (AnyValue AnArray AnObject) s i) r
 
       put : {P : List ℕ → Type 0} {j : ℕ} → Derived P s i j → ((x : List ℕ) → P x → AnyValue AnArray AnObject x) → Derived (AnyValue AnArray AnObject) s i j
@@ -67,7 +66,7 @@ value_got (suc d) s i =
     (λ e. group_sound (member_sound (value_got d s)) 0x7D e (omega arith) (omega arith))
 
 -- a value that was read is derived
-pub value_sound : (d : ℕ) (s : List ℕ) (i : ℕ) (c : Cursor) → value_at d s i ≡ To c → Derived (Value d) s i c.at
+pub value_sound : (d : ℕ) (s : List ℕ) (i : ℕ) (c : Cursor) → value_at d s i ≡ Some c → Derived (Value d) s i c.at
 value_sound d s i c e = got_is (rw e at (value_got d s i))
 
 -- ---- one level, complete
@@ -86,7 +85,7 @@ module _ {s : List ℕ} {i j : ℕ} {AnArray AnObject : List ℕ → Type 0} whe
   any_first f g a_false q = let e = stands_head s q in omega arith
   any_first f g a_null q = let e = stands_head s q in omega arith
 
-module _ {s : List ℕ} {i j : ℕ} {AnArray AnObject : List ℕ → Type 0} (array object : ℕ → Read) where
+module _ {s : List ℕ} {i j : ℕ} {AnArray AnObject : List ℕ → Type 0} (array object : ℕ → Option Cursor) where
   any_complete : ((x : List ℕ) → AnArray x → Stands s i x j → (byte s i ≡ 0x5B) × (array (i + 1) ≡ to j))
       → ((x : List ℕ) → AnObject x → Stands s i x j → (byte s i ≡ 0x7B) × (object (i + 1) ≡ to j))
       → {x : List ℕ} → AnyValue AnArray AnObject x → Stands s i x j → Follows s i j → any_value_at array object s i ≡ to j

@@ -1,4 +1,5 @@
 -- One pass over the items of an array or object: the loops' invariants, and the steps from one to the next.
+use Rattle.std.specs.Prelude.{None, Option, Some}
 use mathlib.Core.Path.{◌≡◌, refl, sym, ap, subst, ◌∙◌}
 use mathlib.Core.Bool.{Bool, true, false, cond, ◌||◌}
 use mathlib.Core.List.{List, [], ◌∷◌, map}
@@ -9,14 +10,13 @@ use lib.ListN.{length, get_or, set, take, drop, length-set}
 use lib.Seq.{get_or-set_same, get_or-set_other, get_or-take, take-set-le, take-take, take-nil}
 use lib.Dec.{eqb, ltb, leb}
 use borrow.Author.Tests.{lt-ltb, le-ltb, leb-true, leb-false, eqb-true, ltb-true, ltb-false}
+use Rattle.std.proofs.lemmas.Option.{some_pair_parts}
 use Rattle.limits.specs.Limits.{members}
 use Rattle.json_blocks.specs.TextBytes.{byte, to, blank, skip_blanks}
 use Rattle.json_blocks.specs.Lists.{any}
 use Rattle.json_blocks.specs.Group.{after_item, colon_at}
 use Rattle.json_tokens.specs.MemberName.{name_at}
 use Rattle.json_blocks.specs.declared.Cursor.{Cursor}
-use Rattle.json_blocks.specs.declared.Read.{Read}
-use Rattle.json_blocks.specs.declared.Read.TheVariants as R
 use Rattle.json_blocks.specs.declared.After.{After}
 use Rattle.json_blocks.specs.declared.After.TheVariants as A
 use Rattle.json_blocks.proofs.ByteLaws.{inside, cond_elim, blanks_onward, Onward, onward_is}
@@ -34,10 +34,6 @@ use Rattle.json_walk.proofs.ReadLaws.{NameRead, name_read}
 use Rattle.json_strings.specs.Decode.{decoded_from}
 use Rattle.json_names.specs.Keys.{key_of}
 use Rattle.json_names.specs.Plain.{keyed}
-use Rattle.json_names.specs.declared.Keyed.{Keyed}
-use Rattle.json_names.specs.declared.Keyed.TheVariants as K
-use Rattle.json_judge.specs.declared.Scan.{Scan}
-use Rattle.json_judge.specs.declared.Scan.TheVariants as S
 use Rattle.json_judge.specs.declared.Names.{Names}
 use Rattle.json_judge.proofs.ValueLaws.{keyed_none, keyed_to}
 use Rattle.json_judge.specs.MemberNames.{decoded_name, has_name, repeated, bad_names, bad_array, bad_object, bad_members_at}
@@ -46,11 +42,11 @@ use Rattle.json_judge.specs.Pass.{Passed, scan_of, array_at, object_at, bad_arra
 
 -- ---- a group, by the depth that is left
 module _ (d : ℕ) (s : List ℕ) (at : ℕ) where
-  array_deep : d ≡ 0 → array_at d s at ≡ R.Bad
+  array_deep : d ≡ 0 → array_at d s at ≡ None
   unfolding array_at
   array_deep e = rw e
 
-  object_deep : d ≡ 0 → object_at d s at ≡ R.Bad
+  object_deep : d ≡ 0 → object_at d s at ≡ None
   unfolding object_at
   object_deep e = rw e
 
@@ -65,23 +61,23 @@ object_group zero s at f = absurd (f refl)
 object_group (suc d) s at f = rw (sub-one (suc d))
 
 -- ---- what a pass promises
-pub passed : {used : ℕ} {tell r : Scan} {places keys places' keys' : List ℕ} → r ≡ tell → FrontKept used places places' → FrontKept used keys keys'
+pub passed : {used : ℕ} {tell r : (Option (Cursor × Bool))} {places keys places' keys' : List ℕ} → r ≡ tell → FrontKept used places places' → FrontKept used keys keys'
     → Passed used tell places keys r places' keys'
 passed a b c = record { told = a; places_kept = b; keys_kept = c }
 
 -- ---- what a scan tells
-pub scan_bad : (x : Read) (b : Bool) → S.Bad ≡ scan_of x b → x ≡ R.Bad
-scan_bad (R.To c) b e = let z : ◌≡◌ {A = ℕ} 0 1 = cc in absurd (omega arith)
-scan_bad R.Bad b e = refl
+pub scan_bad : (x : Option Cursor) (b : Bool) → None ≡ scan_of x b → x ≡ None
+scan_bad (Some c) b e = let z : ◌≡◌ {A = ℕ} 0 1 = cc in absurd (omega arith)
+scan_bad None b e = refl
 
-pub scan_to : (x : Read) (b : Bool) (c : Cursor) (t : Bool) → S.To c t ≡ scan_of x b → (x ≡ R.To c) × (b ≡ t)
-scan_to (R.To d) b c t e = (cc, cc)
-scan_to R.Bad b c t e = let z : ◌≡◌ {A = ℕ} 0 1 = cc in absurd (omega arith)
+pub scan_to : (x : Option Cursor) (b : Bool) (c : Cursor) (t : Bool) → Some (c, t) ≡ scan_of x b → (x ≡ Some c) × (b ≡ t)
+scan_to (Some d) b c t e = let p = some_pair_parts _ _ _ _ e in (cc, cc)
+scan_to None b c t e = let z : ◌≡◌ {A = ℕ} 0 1 = cc in absurd (omega arith)
 
-told_bad : (x : Read) (b : Bool) → x ≡ R.Bad → S.Bad ≡ scan_of x b
+told_bad : (x : Option Cursor) (b : Bool) → x ≡ None → None ≡ scan_of x b
 told_bad x b e = rw e
 
-told_to : (x : Read) (b t : Bool) (c : Cursor) → x ≡ R.To c → t ≡ b → S.To c t ≡ scan_of x b
+told_to : (x : Option Cursor) (b t : Bool) (c : Cursor) → x ≡ Some c → t ≡ b → Some (c, t) ≡ scan_of x b
 told_to x b t c e h = rw (e, h)
 
 -- ---- memory below a place is kept
@@ -148,8 +144,8 @@ from_is bad s seen (m ∷ l) h = go (λ g. from_is bad s (decoded_name s m ∷ s
   n : ℕ
   n = length (map (decoded_name s) l)
 
-  After : ℕ → Bool
-  After k = (repeated (decoded_name s m ∷ seen) (map (decoded_name s) l) || ltb members k) || any (λ x. bad x.value) l
+  over : ℕ → Bool
+  over k = (repeated (decoded_name s m ∷ seen) (map (decoded_name s) l) || ltb members k) || any (λ x. bad x.value) l
 
   order : (r o v w : Bool) → (v || ((r || o) || w)) ≡ ((r || o) || (v || w))
   order true o true w = refl
@@ -158,7 +154,7 @@ from_is bad s seen (m ∷ l) h = go (λ g. from_is bad s (decoded_name s m ∷ s
   order false true false w = refl
   order false false v w = refl
 
-  go : (suc (length seen) ≤ members → bad_from bad s (decoded_name s m ∷ seen) l ≡ After (suc (length seen) + n)) → (t : Bool) → leb members (length seen) ≡ t → (x : Bool)
+  go : (suc (length seen) ≤ members → bad_from bad s (decoded_name s m ∷ seen) l ≡ over (suc (length seen) + n)) → (t : Bool) → leb members (length seen) ≡ t → (x : Bool)
       → ((t || x) || (bad m.value || bad_from bad s (decoded_name s m ∷ seen) l))
       ≡ (((x || repeated (decoded_name s m ∷ seen) (map (decoded_name s) l)) || ltb members (length seen + suc n)) || (bad m.value || any (λ k. bad k.value) l))
   go ih true q x =
@@ -167,7 +163,7 @@ from_is bad s seen (m ∷ l) h = go (λ g. from_is bad s (decoded_name s m ∷ s
   go ih false q true = refl
   go ih false q false =
       let e : suc (length seen) + n ≡ length seen + suc n = omega arith in
-      ap (λ (z : Bool). bad m.value || z) (ih (omega (arith, leb-false members (length seen) q)) ∙ ap After e)
+      ap (λ (z : Bool). bad m.value || z) (ih (omega (arith, leb-false members (length seen) q)) ∙ ap over e)
       ∙ order (repeated (decoded_name s m ∷ seen) (map (decoded_name s) l)) (ltb members (length seen + suc n)) (bad m.value) (any (λ k. bad k.value) l)
 
 object_from : (bad : ℕ → Bool) (s : List ℕ) (ms : List Member) → bad_from bad s [] ms ≡ bad_object bad s ms
@@ -196,7 +192,7 @@ array_start d s at start used places keys e = record {
 }
 
 -- what the loop tells of the whole
-abbrev pub ArrayTold : ℕ → List ℕ → ℕ → Scan → Type 0
+abbrev pub ArrayTold : ℕ → List ℕ → ℕ → Option (Cursor × Bool) → Type 0
 ArrayTold d s start r = r ≡ scan_of (items_at (value_at d s) s 0x5D start) (bad_array (bad_members_at d s) (elements_from s start))
 
 -- no number or literal goes on with a close
@@ -209,14 +205,14 @@ unfolding token_byte blank
 brace_ends = refl
 
 -- an element was read, and what stands after it
-module _ (d : ℕ) (s : List ℕ) (i : ℕ) (c : Cursor) (ev : value_at d s i ≡ R.To c) where
-  element_first : (after_item s 0x5D c.at ≡ A.Bad → ⊥) → elements_from s i ≡ record { at = i; end = c.at } ∷ elements_from s (next_item s c.at)
+module _ (d : ℕ) (s : List ℕ) (i : ℕ) (c : Cursor) (ev : value_at d s i ≡ Some c) where
+  element_first : (after_item s 0x5D c.at ≡ None → ⊥) → elements_from s i ≡ record { at = i; end = c.at } ∷ elements_from s (next_item s c.at)
   element_first f = elements_more s i c.at (value_read d s i c ev (after_scalar s 0x5D c.at bracket_ends f)) (value_onward d s i c ev)
 
-after_apart : (a : After) (c : Cursor) → a ≡ A.Item c → a ≡ A.Bad → ⊥
+after_apart : (a : Option After) (c : Cursor) → a ≡ Some (A.Item c) → a ≡ None → ⊥
 after_apart a c e f = let z : ◌≡◌ {A = ℕ} 0 1 = cc in omega arith
 
-close_apart : (a : After) (c : Cursor) → a ≡ A.Close c → a ≡ A.Bad → ⊥
+close_apart : (a : Option After) (c : Cursor) → a ≡ Some (A.Close c) → a ≡ None → ⊥
 close_apart a c e f = let z : ◌≡◌ {A = ℕ} 0 1 = cc in omega arith
 
 or_assoc : (a b c : Bool) → ((a || b) || c) ≡ (a || (b || c))
@@ -228,28 +224,28 @@ or_false true = refl
 or_false false = refl
 
 module _ (d : ℕ) (s : List ℕ) (at start used : ℕ) (places₀ keys₀ places keys : List ℕ) (bad : Bool) (i : ℕ)
-    (p : ArrayPass d s at start used places₀ keys₀ places keys bad i) (r : Scan) (er : r ≡ scan_of (value_at d s i) (bad_members_at d s i)) where
-  pub array_stop : r ≡ S.Bad → ArrayTold d s start S.Bad
+    (p : ArrayPass d s at start used places₀ keys₀ places keys bad i) (r : Option (Cursor × Bool)) (er : r ≡ scan_of (value_at d s i) (bad_members_at d s i)) where
+  pub array_stop : r ≡ None → ArrayTold d s start None
   array_stop h = told_bad _ _ (sym p.reading ∙ items_none (value_at d s) s 0x5D i (scan_bad _ _ (sym h ∙ er)))
 
-  module _ (c : Cursor) (inner : Bool) (h : r ≡ S.To c inner) (b : Bool) (eb : b ≡ (bad || inner)) (a : After) (ea : a ≡ after_item s 0x5D c.at) where
-    read : value_at d s i ≡ R.To c
+  module _ (c : Cursor) (inner : Bool) (h : r ≡ Some (c, inner)) (b : Bool) (eb : b ≡ (bad || inner)) (a : Option After) (ea : a ≡ after_item s 0x5D c.at) where
+    read : value_at d s i ≡ Some c
     read = (scan_to (value_at d s i) (bad_members_at d s i) c inner (sym h ∙ er)).0
 
     found : bad_members_at d s i ≡ inner
     found = (scan_to (value_at d s i) (bad_members_at d s i) c inner (sym h ∙ er)).1
 
-    pub array_bad : a ≡ A.Bad → ArrayTold d s start S.Bad
+    pub array_bad : a ≡ None → ArrayTold d s start None
     array_bad g = told_bad _ _ (sym p.reading ∙ items_bad (value_at d s) s 0x5D i c read (sym ea ∙ g))
 
-    rest_is : (after_item s 0x5D c.at ≡ A.Bad → ⊥) → (b || bad_array (bad_members_at d s) (elements_from s (next_item s c.at))) ≡ bad_array (bad_members_at d s) (elements_from s start)
+    rest_is : (after_item s 0x5D c.at ≡ None → ⊥) → (b || bad_array (bad_members_at d s) (elements_from s (next_item s c.at))) ≡ bad_array (bad_members_at d s) (elements_from s start)
     unfolding any
     rest_is f =
         ap (λ (x : Bool). x || bad_array (bad_members_at d s) (elements_from s (next_item s c.at))) eb ∙ or_assoc bad inner _
         ∙ ap (λ (x : Bool). bad || (x || bad_array (bad_members_at d s) (elements_from s (next_item s c.at)))) (sym found)
         ∙ ap (λ (l : List Element). bad || bad_array (bad_members_at d s) l) (sym (element_first d s i c read f)) ∙ p.names
 
-    pub array_close : (e : Cursor) → a ≡ A.Close e → ArrayTold d s start (S.To e b)
+    pub array_close : (e : Cursor) → a ≡ Some (A.Close e) → ArrayTold d s start (Some (e, b))
     unfolding any
     array_close e g =
         let q = sym ea ∙ g in
@@ -258,7 +254,7 @@ module _ (d : ℕ) (s : List ℕ) (at start used : ℕ) (places₀ keys₀ place
         told_to _ _ b e (sym p.reading ∙ items_close (value_at d s) s 0x5D i c read e q)
         (sym (or_false b) ∙ ap (λ (l : List Element). b || bad_array (bad_members_at d s) l) (sym n) ∙ rest_is (close_apart _ e q))
 
-    module _ (e : Cursor) (g : a ≡ A.Item e) where
+    module _ (e : Cursor) (g : a ≡ Some (A.Item e)) where
       pub array_less : (i < e.at) × (i < length s)
       array_less = items_less (value_at d s) s 0x5D i c read (value_forward d s) e (sym ea ∙ g)
 
@@ -275,7 +271,7 @@ module _ (d : ℕ) (s : List ℕ) (at start used : ℕ) (places₀ keys₀ place
           }
 
 -- ---- the array, from past its opening byte; k is where the blanks end, b the byte there
-pub array_zero : (d : ℕ) (s : List ℕ) (at : ℕ) → d ≡ 0 → S.Bad ≡ scan_of (array_at d s at) (bad_array_at d s at)
+pub array_zero : (d : ℕ) (s : List ℕ) (at : ℕ) → d ≡ 0 → None ≡ scan_of (array_at d s at) (bad_array_at d s at)
 array_zero d s at e = told_bad _ _ (array_deep d s at e)
 
 bad_array_lem : (d : ℕ) (s : List ℕ) (at : ℕ) → (d ≡ 0 → ⊥) → bad_array_at d s at ≡ bad_array (bad_members_at (d - 1) s) (elements_from s (skip_blanks s at))
@@ -284,14 +280,14 @@ bad_array_lem zero s at f = absurd (f refl)
 bad_array_lem (suc d) s at f = rw (sub-one (suc d))
 
 module _ (d : ℕ) (s : List ℕ) (at k b : ℕ) (f : d ≡ 0 → ⊥) (ek : k ≡ skip_blanks s at) (eb : b ≡ byte s k) where
-  pub array_empty : b ≡ 0x5D → S.To (record { at = k + 1 }) false ≡ scan_of (array_at d s at) (bad_array_at d s at)
+  pub array_empty : b ≡ 0x5D → Some ((record { at = k + 1 }), false) ≡ scan_of (array_at d s at) (bad_array_at d s at)
   unfolding any
   array_empty h =
       told_to _ _ false (record { at = k + 1 }) (array_group d s at f ∙ group_empty (value_at (d - 1) s) s 0x5D at k b ek eb h)
       (sym (bad_array_lem d s at f ∙ ap (λ (l : List Element). bad_array (bad_members_at (d - 1) s) l)
       (ap (elements_from s) (sym ek) ∙ elements_none s k 0x5D (sym eb ∙ h) (λ z. omega arith) refl bracket_ends)))
 
-  pub array_told : (r : Scan) → (b ≡ 0x5D → ⊥) → ArrayTold (d - 1) s k r → r ≡ scan_of (array_at d s at) (bad_array_at d s at)
+  pub array_told : (r : Option (Cursor × Bool)) → (b ≡ 0x5D → ⊥) → ArrayTold (d - 1) s k r → r ≡ scan_of (array_at d s at) (bad_array_at d s at)
   array_told r g e = rw (array_group d s at f, group_items (value_at (d - 1) s) s 0x5D at k b ek eb g, bad_array_lem d s at f, ← ek) e
 
 -- ---- the loop over the members of an object
@@ -320,41 +316,38 @@ object_start d s at start used places keys e = record {
   keys_kept = kept_same used keys;
 }
 
-abbrev pub ObjectTold : ℕ → List ℕ → ℕ → Scan → Type 0
+abbrev pub ObjectTold : ℕ → List ℕ → ℕ → Option (Cursor × Bool) → Type 0
 ObjectTold d s start r = r ≡ scan_of (items_at (member_at (value_at d s) s) s 0x7D start) (bad_object (bad_members_at d s) s (members_from s start))
 
 -- ---- a name was read
 -- the name, its colon and the value's place are three bytes at least, and the colon stands inside the text
-pub name_inside : (s : List ℕ) (i : ℕ) (v : Cursor) → name_at s i ≡ R.To v → (i + 3 ≤ length s) × (i + 3 ≤ v.at)
+pub name_inside : (s : List ℕ) (i : ℕ) (v : Cursor) → name_at s i ≡ Some v → (i + 3 ≤ length s) × (i + 3 ≤ v.at)
 unfolding colon_at
 name_inside s i v e = go (name_read s i v e) where
-  colon : (n : ℕ) (x : Read) → cond (eqb (byte s (skip_blanks s n)) 0x3A) (to (skip_blanks s (skip_blanks s n + 1))) R.Bad ≡ R.To v → skip_blanks s n < length s
+  colon : (n : ℕ) (x : Option Cursor) → cond (eqb (byte s (skip_blanks s n)) 0x3A) (to (skip_blanks s (skip_blanks s n + 1))) None ≡ Some v → skip_blanks s n < length s
   colon n x h =
-      cond_elim (λ (r : Read). r ≡ R.To v → skip_blanks s n < length s) (eqb (byte s (skip_blanks s n)) 0x3A) _ _
+      cond_elim (λ (r : Option Cursor). r ≡ Some v → skip_blanks s n < length s) (eqb (byte s (skip_blanks s n)) 0x3A) _ _
       (λ b _. inside s (skip_blanks s n) 0x3A (sym (eqb-true _ _ b)) (omega arith)) (λ _ g. let z : ◌≡◌ {A = ℕ} 0 1 = cc in absurd (omega arith)) h
 
   go : NameRead s i v → (i + 3 ≤ length s) × (i + 3 ≤ v.at)
   go p =
-      let h = onward_is (subst (λ (x : Read). Onward (i + 3) x) e (name_onward s i)) in
-      let l = colon p.end.at R.Bad p.colon in
+      let h = onward_is (subst (λ (x : Option Cursor). Onward (i + 3) x) e (name_onward s i)) in
+      let l = colon p.end.at None p.colon in
       let m = blanks_onward s p.end.at in
       let n = p.last in
       (omega arith, omega arith)
 
 -- ---- a name with its key
-module _ (s : List ℕ) (i : ℕ) (k : Keyed) (ek : k ≡ keyed (name_at s i) (key_of (decoded_from s (i + 1)))) (v : Cursor) (key : ℕ) (hk : k ≡ K.To v key) where
-  name_was : (name_at s i ≡ R.To v) × (key ≡ key_of (decoded_from s (i + 1)))
+module _ (s : List ℕ) (i : ℕ) (k : Option (Cursor × ℕ)) (ek : k ≡ keyed (name_at s i) (key_of (decoded_from s (i + 1)))) (v : Cursor) (key : ℕ) (hk : k ≡ Some (v, key)) where
+  name_was : (name_at s i ≡ Some v) × (key ≡ key_of (decoded_from s (i + 1)))
   name_was = keyed_to (name_at s i) (key_of (decoded_from s (i + 1))) v key (sym hk ∙ ek)
 
   pub name_far : (i + 3 ≤ length s) × (i + 3 ≤ v.at)
   name_far = name_inside s i v name_was.0
 
-  pub name_keyed : key ≡ key_of (decoded_from s (i + 1))
-  name_keyed = name_was.1
-
 -- the member at i, where its value was read up to c, is the next one found
-module _ (d : ℕ) (s : List ℕ) (i : ℕ) (v c : Cursor) (en : name_at s i ≡ R.To v) (ev : value_at d s v.at ≡ R.To c)
-    (f : after_item s 0x7D c.at ≡ A.Bad → ⊥) where
+module _ (d : ℕ) (s : List ℕ) (i : ℕ) (v c : Cursor) (en : name_at s i ≡ Some v) (ev : value_at d s v.at ≡ Some c)
+    (f : after_item s 0x7D c.at ≡ None → ⊥) where
   member_first : (m : Member) × (m.name ≡ i + 1) × (m.value ≡ v.at) × (members_from s i ≡ m ∷ members_from s (next_item s c.at))
   member_first =
       let p = name_read s i v en in
@@ -438,34 +431,34 @@ module _ (s : List ℕ) (at base : ℕ) (names : Names) (places keys : List ℕ)
 -- ---- the loop's steps
 module _ (d : ℕ) (s : List ℕ) (at start used : ℕ) (places₀ keys₀ places keys : List ℕ) (bad : Bool) (n i : ℕ)
     (p : ObjectPass d s at start used places₀ keys₀ places keys bad n i) where
-  pub object_nameless : (k : Keyed) → k ≡ keyed (name_at s i) (key_of (decoded_from s (i + 1))) → k ≡ K.Bad → ObjectTold d s start S.Bad
+  pub object_nameless : (k : Option (Cursor × ℕ)) → k ≡ keyed (name_at s i) (key_of (decoded_from s (i + 1))) → k ≡ None → ObjectTold d s start None
   object_nameless k ek h =
       told_bad _ _ (sym p.reading
       ∙ items_none (member_at (value_at d s) s) s 0x7D i (member_none (value_at d s) s i (keyed_none (name_at s i) (key_of (decoded_from s (i + 1))) (sym h ∙ ek))))
 
-  module _ (k : Keyed) (ek : k ≡ keyed (name_at s i) (key_of (decoded_from s (i + 1)))) (v : Cursor) (key : ℕ) (hk : k ≡ K.To v key) (t : Names) (places' keys' : List ℕ)
+  module _ (k : Option (Cursor × ℕ)) (ek : k ≡ keyed (name_at s i) (key_of (decoded_from s (i + 1)))) (v : Cursor) (key : ℕ) (hk : k ≡ Some (v, key)) (t : Names) (places' keys' : List ℕ)
       (et : NameKept s (i + 1) used (record { count = n; bad = bad }) places keys t places' keys')
       (fits : n < members → used + n < length places) (fits' : n < members → used + n < length keys)
-      (r : Scan) (er : r ≡ scan_of (value_at d s v.at) (bad_members_at d s v.at)) where
-    name_is : name_at s i ≡ R.To v
+      (r : Option (Cursor × Bool)) (er : r ≡ scan_of (value_at d s v.at) (bad_members_at d s v.at)) where
+    name_is : name_at s i ≡ Some v
     name_is = (name_was s i k ek v key hk).0
 
-    pub object_stop : r ≡ S.Bad → ObjectTold d s start S.Bad
+    pub object_stop : r ≡ None → ObjectTold d s start None
     object_stop h =
         told_bad _ _ (sym p.reading
         ∙ items_none (member_at (value_at d s) s) s 0x7D i (member_value_lem (value_at d s) s i v name_is ∙ scan_bad _ _ (sym h ∙ er)))
 
-    module _ (c : Cursor) (inner : Bool) (h : r ≡ S.To c inner) (b : Bool) (eb : b ≡ (t.bad || inner)) (a : After) (ea : a ≡ after_item s 0x7D c.at) where
-      value_is : value_at d s v.at ≡ R.To c
+    module _ (c : Cursor) (inner : Bool) (h : r ≡ Some (c, inner)) (b : Bool) (eb : b ≡ (t.bad || inner)) (a : Option After) (ea : a ≡ after_item s 0x7D c.at) where
+      value_is : value_at d s v.at ≡ Some c
       value_is = (scan_to (value_at d s v.at) (bad_members_at d s v.at) c inner (sym h ∙ er)).0
 
       inner_is : bad_members_at d s v.at ≡ inner
       inner_is = (scan_to (value_at d s v.at) (bad_members_at d s v.at) c inner (sym h ∙ er)).1
 
-      member_is : member_at (value_at d s) s i ≡ R.To c
+      member_is : member_at (value_at d s) s i ≡ Some c
       member_is = member_value_lem (value_at d s) s i v name_is ∙ value_is
 
-      pub object_bad : a ≡ A.Bad → ObjectTold d s start S.Bad
+      pub object_bad : a ≡ None → ObjectTold d s start None
       object_bad g = told_bad _ _ (sym p.reading ∙ items_bad (member_at (value_at d s) s) s 0x7D i c member_is (sym ea ∙ g))
 
       -- the names after this member, with the memory that its value left
@@ -473,7 +466,7 @@ module _ (d : ℕ) (s : List ℕ) (at start used : ℕ) (places₀ keys₀ place
         same_names : names_on s places'' used t.count ≡ names_on s places' used t.count
         same_names = names_kept s kp used t.count (omega arith)
 
-        rest_told : (after_item s 0x7D c.at ≡ A.Bad → ⊥)
+        rest_told : (after_item s 0x7D c.at ≡ None → ⊥)
             → (b || bad_from (bad_members_at d s) s (names_on s places'' used t.count) (members_from s (next_item s c.at))) ≡ bad_object (bad_members_at d s) s (members_from s start)
         rest_told f =
             let m = member_first d s i v c name_is value_is f in
@@ -482,7 +475,7 @@ module _ (d : ℕ) (s : List ℕ) (at start used : ℕ) (places₀ keys₀ place
             (kept_told s (i + 1) used (record { count = n; bad = bad }) places keys fits fits' et (bad_members_at d s) m.0 (members_from s (next_item s c.at)) m.1
             ∙ ap (λ (l : List Member). bad || bad_from (bad_members_at d s) s (names_on s places used n) l) (sym m.3) ∙ p.names)
 
-        pub object_close : (e : Cursor) → a ≡ A.Close e → ObjectTold d s start (S.To e b)
+        pub object_close : (e : Cursor) → a ≡ Some (A.Close e) → ObjectTold d s start (Some (e, b))
         unfolding bad_from
         object_close e g =
             let w = sym ea ∙ g in
@@ -491,10 +484,10 @@ module _ (d : ℕ) (s : List ℕ) (at start used : ℕ) (places₀ keys₀ place
             told_to _ _ b e (sym p.reading ∙ items_close (member_at (value_at d s) s) s 0x7D i c member_is e w)
             (sym (or_false b) ∙ ap (λ (x : List Member). b || bad_from (bad_members_at d s) s (names_on s places'' used t.count) x) (sym o) ∙ rest_told (close_apart _ e w))
 
-        module _ (e : Cursor) (g : a ≡ A.Item e) where
+        module _ (e : Cursor) (g : a ≡ Some (A.Item e)) where
           pub object_less : (i + 4 ≤ e.at) × (i < length s)
           object_less = go (subst (OnwardAfter s c.at) (sym ea ∙ g) (after_onward s 0x7D c.at)) where
-            go : OnwardAfter s c.at (A.Item e) → (i + 4 ≤ e.at) × (i < length s)
+            go : OnwardAfter s c.at (Some (A.Item e)) → (i + 4 ≤ e.at) × (i < length s)
             go (onward_item l m) =
                 let f = name_far s i k ek v key hk in
                 (omega (arith, f.1, value_onward d s v.at c value_is), omega (arith, f.0))
@@ -516,7 +509,7 @@ module _ (d : ℕ) (s : List ℕ) (at start used : ℕ) (places₀ keys₀ place
               }
 
 -- ---- the object, from past its opening byte; k is where the blanks end, b the byte there
-pub object_zero : (d : ℕ) (s : List ℕ) (at : ℕ) → d ≡ 0 → S.Bad ≡ scan_of (object_at d s at) (bad_object_at d s at)
+pub object_zero : (d : ℕ) (s : List ℕ) (at : ℕ) → d ≡ 0 → None ≡ scan_of (object_at d s at) (bad_object_at d s at)
 object_zero d s at e = told_bad _ _ (object_deep d s at e)
 
 bad_object_lem : (d : ℕ) (s : List ℕ) (at : ℕ) → (d ≡ 0 → ⊥) → bad_object_at d s at ≡ bad_object (bad_members_at (d - 1) s) s (members_from s (skip_blanks s at))
@@ -525,12 +518,12 @@ bad_object_lem zero s at f = absurd (f refl)
 bad_object_lem (suc d) s at f = rw (sub-one (suc d))
 
 module _ (d : ℕ) (s : List ℕ) (at k b : ℕ) (f : d ≡ 0 → ⊥) (ek : k ≡ skip_blanks s at) (eb : b ≡ byte s k) where
-  pub object_empty : b ≡ 0x7D → S.To (record { at = k + 1 }) false ≡ scan_of (object_at d s at) (bad_object_at d s at)
+  pub object_empty : b ≡ 0x7D → Some ((record { at = k + 1 }), false) ≡ scan_of (object_at d s at) (bad_object_at d s at)
   unfolding any bad_names repeated
   object_empty h =
       told_to _ _ false (record { at = k + 1 }) (object_group d s at f ∙ group_empty (member_at (value_at (d - 1) s) s) s 0x7D at k b ek eb h)
       (sym (bad_object_lem d s at f ∙ ap (λ (l : List Member). bad_object (bad_members_at (d - 1) s) s l)
       (ap (members_from s) (sym ek) ∙ members_none s k 0x7D (sym eb ∙ h) (λ z. omega arith))))
 
-  pub object_told : (r : Scan) → (b ≡ 0x7D → ⊥) → ObjectTold (d - 1) s k r → r ≡ scan_of (object_at d s at) (bad_object_at d s at)
+  pub object_told : (r : Option (Cursor × Bool)) → (b ≡ 0x7D → ⊥) → ObjectTold (d - 1) s k r → r ≡ scan_of (object_at d s at) (bad_object_at d s at)
   object_told r g e = rw (object_group d s at f, group_items (member_at (value_at (d - 1) s) s) s 0x7D at k b ek eb g, bad_object_lem d s at f, ← ek) e

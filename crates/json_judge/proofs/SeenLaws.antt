@@ -1,22 +1,21 @@
 -- The names kept for the open objects: steps of specs/Stack.antt, on plain variables.
+use Rattle.std.specs.Prelude.{None, Option, Some}
 use mathlib.Core.Path.{◌≡◌, refl, sym, ap, subst, ◌∙◌}
 use mathlib.Core.Bool.{Bool, true, false, cond, ◌||◌}
 use mathlib.Core.List.{List, [], ◌∷◌}
 use Prim.Native.Nat.{ℕ, zero, suc, ◌≤◌, ◌<◌, ◌+◌, ◌-◌}
 use native.Mathlib.Omega.{arith}
-use native.Mathlib.Numerals.{add-one, sub-one}
+use native.Mathlib.Numerals.{add-one}
 use lib.ListN.{length, get_or, set, take, drop, length-drop, drop_of_length-le}
 use lib.Seq.{get_or-drop, drop-cons}
-use lib.Dec.{eqb}
-use borrow.Author.Tests.{le-leb, lt-leb, eqb-false}
+use lib.Dec.{eqb, ltb}
+use borrow.Author.Tests.{le-leb, lt-leb, eqb-false, ltb-true, ltb-false}
 use Rattle.limits.specs.Limits.{members}
 use Rattle.json_blocks.proofs.ByteLaws.{cond_elim}
 use Rattle.json_strings.specs.Decode.{decoded_from}
 use Rattle.json_names.specs.Same.{same}
 use Rattle.json_names.specs.Keys.{key_of, second_key_of}
 use Rattle.json_names.proofs.SameLaws.{same_ne}
-use Rattle.json_judge.specs.declared.Fresh.{Fresh}
-use Rattle.json_judge.specs.declared.Fresh.TheVariants.{Key, Known}
 use Rattle.json_judge.specs.declared.Names.{Names}
 use Rattle.json_judge.specs.MemberNames.{has_name}
 use Rattle.json_judge.specs.Stack.{has_key, names_on, kept_key, IsKey, first_key, second_key, KeysAgree, fresh_key, refuses, NameKept, kept, refused}
@@ -30,34 +29,38 @@ neither_right true u e = let z : ◌≡◌ {A = ℕ} 0 1 = cc in absurd (omega a
 neither_right false u e = e
 
 -- a name that has neither of another's keys is not the same
-key_clash : {k l : List ℕ} {a b c : ℕ} → k ≡ l → a ≡ key_of k → b ≡ second_key_of k → IsKey l c → (c ≡ a → ⊥) → (c ≡ b → ⊥) → ⊥
-key_clash e p q first_key f g = f (ap key_of (sym e) ∙ sym p)
-key_clash e p q second_key f g = g (ap second_key_of (sym e) ∙ sym q)
+key_clash : {k l : List ℕ} {c : ℕ} → k ≡ l → IsKey l c → (c ≡ key_of k → ⊥) → (c ≡ second_key_of k → ⊥) → ⊥
+key_clash e first_key f g = f (ap key_of (sym e))
+key_clash e second_key f g = g (ap second_key_of (sym e))
 
-pub keys_apart : (k l : List ℕ) (a b c : ℕ) → a ≡ key_of k → b ≡ second_key_of k → IsKey l c → (eqb c a || eqb c b) ≡ false → false ≡ same k l
-keys_apart k l a b c p q h n =
-    sym (same_ne k l (λ e. key_clash e p q h (eqb-false c a (neither_left (eqb c a) _ n)) (eqb-false c b (neither_right (eqb c a) _ n))))
+pub keys_apart : (k l : List ℕ) (c : ℕ) → IsKey l c → (c ≡ key_of k → ⊥) → (c ≡ second_key_of k → ⊥) → false ≡ same k l
+keys_apart k l c h f g = sym (same_ne k l (λ e. key_clash e h f g))
 
 -- ---- one of the names kept
-module _ (s places : List ℕ) (base : ℕ) where
-  pub names_more : (k : ℕ) → 0 < k → names_on s places base k ≡ decoded_from s (get_or places (base + (k - 1)) 0) ∷ names_on s places base (k - 1)
-  unfolding names_on
-  names_more zero h = absurd (omega arith)
-  names_more (suc k) h = rw (sub-one (suc k))
+module _ (s places : List ℕ) (base : ℕ) (x : List ℕ) where
+  pub known_more : (k : ℕ) → false ≡ has_name x (names_on s places base k) → false ≡ same x (decoded_from s (get_or places (base + k) 0))
+      → false ≡ has_name x (names_on s places base (k + 1))
+  unfolding has_name names_on
+  known_more k e f = rw (add-one k, ← f) e
 
-  module _ (x : List ℕ) (k : ℕ) (h : 0 < k) where
-    pub known_found : true ≡ same x (decoded_from s (get_or places (base + (k - 1)) 0)) → true ≡ has_name x (names_on s places base k)
-    unfolding has_name
-    known_found e = rw (names_more k h, ← e)
+  pub known_found : (n k : ℕ) → k < n → true ≡ same x (decoded_from s (get_or places (base + k) 0)) → true ≡ has_name x (names_on s places base n)
+  unfolding has_name names_on
+  known_found zero k h e = absurd (omega arith)
+  known_found (suc n) k h e = go (λ l. known_found n k l e) (ltb k n) refl where
+    last : ℕ → Bool
+    last i = same x (decoded_from s (get_or places (base + i) 0))
 
-    pub known_on : false ≡ same x (decoded_from s (get_or places (base + (k - 1)) 0)) → has_name x (names_on s places base (k - 1)) ≡ has_name x (names_on s places base k)
-    unfolding has_name
-    known_on e = rw (names_more k h, ← e)
+    either : (t u : Bool) → true ≡ u → true ≡ (t || u)
+    either true u f = refl
+    either false u f = f
 
-pub known_none : (s places : List ℕ) (base : ℕ) (x : List ℕ) (k : ℕ) → k ≤ 0 → false ≡ has_name x (names_on s places base k)
-unfolding has_name names_on
-known_none s places base x zero h = refl
-known_none s places base x (suc k) h = absurd (omega arith)
+    go : (k < n → true ≡ has_name x (names_on s places base n)) → (t : Bool) → ltb k n ≡ t → true ≡ (last n || has_name x (names_on s places base n))
+    go f true q = either (last n) _ (f (ltb-true k n q))
+    go f false q =
+        let l = ltb-false k n q in
+        let m : k ≡ n = omega arith in
+        let g : true ≡ last n = e ∙ ap last m in
+        rw (← g)
 
 is_key : (before x : List ℕ) → IsKey x (kept_key before x)
 unfolding kept_key
@@ -74,10 +77,9 @@ either_same true u l = refl
 either_same false u l = refl
 
 module _ (key : ℕ) (l : List ℕ) (i : ℕ) where
-  pub key_on : i < length l → (found next : Bool) → next ≡ (found || eqb (get_or l i 0) key)
-      → (next || has_key key (drop (i + 1) l)) ≡ (found || has_key key (drop i l))
+  pub key_on : i < length l → (found : Bool) → ((found || eqb (get_or l i 0) key) || has_key key (drop (i + 1) l)) ≡ (found || has_key key (drop i l))
   unfolding has_key
-  key_on h found next f = rw (add-one i, drop-cons l i 0 h, f) (either_same found (eqb (get_or l i 0) key) (has_key key (drop (suc i) l)))
+  key_on h found = rw (add-one i, drop-cons l i 0 h) (either_same found (eqb (get_or l i 0) key) (has_key key (drop (suc i) l)))
 
   pub key_end : length l ≤ i → (found : Bool) → found ≡ (found || has_key key (drop i l))
   unfolding has_key
@@ -116,26 +118,26 @@ module _ (s : List ℕ) (at : ℕ) (places keys : List ℕ) (base n key : ℕ) (
   key_among : has_key key (take n (drop base keys)) ≡ t
   key_among = let m : base + n - base ≡ n = omega arith in ap (λ (z : ℕ). has_key key (take z (drop base keys))) (sym m) ∙ sym et
 
-  pub fresh_known : true ≡ has_name (decoded_from s at) (names_on s places base n) → Known ≡ fresh_key s at places keys base n
+  pub fresh_known : true ≡ has_name (decoded_from s at) (names_on s places base n) → None ≡ fresh_key s at places keys base n
   unfolding fresh_key
   fresh_known e = rw (← e)
 
   pub fresh_second : t ≡ true → false ≡ has_name (decoded_from s at) (names_on s places base n) → (k : ℕ) → k ≡ second_key_of (decoded_from s at)
-      → Key k ≡ fresh_key s at places keys base n
+      → Some k ≡ fresh_key s at places keys base n
   unfolding fresh_key kept_key
   fresh_second h e k ek' = rw (← e, ← ek, key_among, h, ek')
 
-  pub fresh_first : t ≡ false → base + n ≤ length keys → KeysAgree s places keys base n → Key key ≡ fresh_key s at places keys base n
+  pub fresh_first : t ≡ false → base + n ≤ length keys → KeysAgree s places keys base n → Some key ≡ fresh_key s at places keys base n
   unfolding fresh_key
   fresh_first h l a =
       let u = key_among ∙ h in
       rw (← unknown s places keys base (decoded_from s at) key ek n l a u, kept_first s places keys base (decoded_from s at) key ek (take n (drop base keys)) (decoded_from s at) u refl)
 
-is_known : (t : Bool) (v : ℕ) → Known ≡ cond t Known (Key v) → t ≡ true
+is_known : (t : Bool) (v : ℕ) → None ≡ cond t None (Some v) → t ≡ true
 is_known true v e = refl
 is_known false v e = let z : ◌≡◌ {A = ℕ} 0 1 = cc in absurd (omega arith)
 
-is_fresh : (t : Bool) (v k : ℕ) → Key k ≡ cond t Known (Key v) → (t ≡ false) × (k ≡ v)
+is_fresh : (t : Bool) (v k : ℕ) → Some k ≡ cond t None (Some v) → (t ≡ false) × (k ≡ v)
 is_fresh true v k e = let z : ◌≡◌ {A = ℕ} 0 1 = cc in absurd (omega arith)
 is_fresh false v k e = (refl, cc)
 
@@ -145,12 +147,12 @@ module _ (s : List ℕ) (at base : ℕ) (names : Names) (places keys : List ℕ)
   unfolding refuses
   name_over h = refused (rw (le-leb _ _ h))
 
-  module _ (h : names.count < members) (f : Fresh) (ef : f ≡ fresh_key s at places keys base names.count) where
-    pub name_known : f ≡ Known → NameKept s at base names places keys (record { count = names.count; bad = true }) places keys
+  module _ (h : names.count < members) (f : Option ℕ) (ef : f ≡ fresh_key s at places keys base names.count) where
+    pub name_known : f ≡ None → NameKept s at base names places keys (record { count = names.count; bad = true }) places keys
     unfolding refuses fresh_key
     name_known e = refused (rw (lt-leb _ _ h) (is_known _ _ (sym e ∙ ef)))
 
-    pub name_new : (k : ℕ) → f ≡ Key k
+    pub name_new : (k : ℕ) → f ≡ Some k
         → NameKept s at base names places keys (record { count = names.count + 1; bad = names.bad })
         (set places (base + names.count) at) (set keys (base + names.count) k)
     unfolding refuses fresh_key

@@ -1,12 +1,12 @@
 -- A whole text: refusals 2 and 3 of document 01.
-use Rattle.std.specs.Prelude.{Bool, not, List, [], ◌∷◌, ℕ}
+use Rattle.std.specs.Prelude.{Bool, not, List, [], ◌∷◌, ℕ, Result, Ok, Err, ⊤}
 use Rattle.limits.specs.Limits.{nesting}
 use Rattle.refusals.specs.Refusals.{Rule, rule}
 use Rattle.json_blocks.specs.TextBytes.{skip_blanks}
 use Rattle.json_grammar.specs.ByPlace.{is_json}
 use Rattle.json_judge.specs.MemberNames.{bad_members_at}
-use Rattle.json_judge.specs.declared.Judged.{Judged}
-use Rattle.json_judge.specs.declared.Judged.TheVariants.{Good, NotJson, BadMembers}
+use Rattle.json_judge.specs.declared.TextError.{TextError}
+use Rattle.json_judge.specs.declared.TextError.TheVariants.{NotJson, BadMembers}
 
 -- 2: "not one JSON value in valid UTF-8, or nested beyond 32"
 abbrev pub not_json : List ℕ → Bool
@@ -20,7 +20,7 @@ abbrev pub judge_rules : List ℕ → List Rule
 judge_rules s = rule 2 (not_json s) ∷ rule 3 (bad_members s) ∷ []
 
 -- document 01's number for each answer
-abbrev pub refusal_of : Judged → ℕ
-refusal_of Good = 0
-refusal_of NotJson = 2
-refusal_of BadMembers = 3
+abbrev pub refusal_of : Result ⊤ TextError → ℕ
+refusal_of (Ok _) = 0
+refusal_of (Err NotJson) = 2
+refusal_of (Err BadMembers) = 3

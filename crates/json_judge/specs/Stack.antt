@@ -1,11 +1,9 @@
 -- For the code: the names of the open objects, kept by place and key in lent memory.
-use Rattle.std.specs.Prelude.{◌≡◌, Bool, true, false, cond, ◌||◌, List, [], ◌∷◌, ℕ, zero, suc, ◌+◌, ◌*◌, ◌-◌, ◌≤◌, ◌<◌, min, length, get_or, take, drop, set, eqb, leb}
+use Rattle.std.specs.Prelude.{◌≡◌, Bool, true, false, cond, ◌||◌, List, [], ◌∷◌, ℕ, zero, suc, ◌+◌, ◌*◌, ◌-◌, ◌≤◌, ◌<◌, min, length, get_or, take, drop, set, eqb, leb, None, Option, Some}
 use Rattle.limits.specs.Limits.{members}
 use Rattle.json_strings.specs.Decode.{decoded_from}
 use Rattle.json_names.specs.Keys.{key_of, second_key_of}
 use Rattle.json_judge.specs.declared.Names.{Names}
-use Rattle.json_judge.specs.declared.Fresh.{Fresh}
-use Rattle.json_judge.specs.declared.Fresh.TheVariants.{Key, Known}
 use Rattle.json_judge.specs.MemberNames.{has_name}
 
 -- a key is among the keys
@@ -33,9 +31,9 @@ KeysAgree s places keys base n =
     (k : ℕ) → k < n → get_or keys (base + k) 0 ≡ kept_key (take k (drop base keys)) (decoded_from s (get_or places (base + k) 0))
 
 -- a name is among the n from a base on, or the key to keep for it
-unfoldable pub fresh_key : List ℕ → ℕ → List ℕ → List ℕ → ℕ → ℕ → Fresh
+unfoldable pub fresh_key : List ℕ → ℕ → List ℕ → List ℕ → ℕ → ℕ → Option ℕ
 fresh_key s at places keys base n =
-    cond (has_name (decoded_from s at) (names_on s places base n)) Known (Key (kept_key (take n (drop base keys)) (decoded_from s at)))
+    cond (has_name (decoded_from s at) (names_on s places base n)) None (Some (kept_key (take n (drop base keys)) (decoded_from s at)))
 
 -- a name is kept: it is counted and stands on top with its key; or it is not, and nothing changes but what is noted
 unfoldable pub refuses : List ℕ → List ℕ → ℕ → ℕ → ℕ → Bool

@@ -4,33 +4,32 @@
 mod seen;
 mod values;
 
-ghost use Rattle.std.specs.Prelude.{◌≡◌, ◌≤◌, length};
+ghost use Rattle.std.specs.Prelude.{◌≡◌, ◌≤◌, ◌*◌, Err};
 ghost use Rattle.refusals.specs.Refusals.{lowest};
+ghost use Rattle.limits.specs.Limits.{nesting, members};
 ghost use Rattle.json_judge.specs.Judged.{refusal_of, judge_rules};
+ghost use Rattle.json_judge.specs.Stack.{NamesRoom};
 
 use crate::values::judge_with;
 use limits::Limits;
 
-// A text is good, or no JSON nested to the limit, or has an object with a name twice or too many members.
+// What is wrong with a text: it is no JSON nested to the limit, or has an object with a name twice or too many members.
 #[derive(Clone, Copy)]
-pub enum Judged {
-    Good,
+pub enum TextError {
     NotJson,
     BadMembers,
 }
 
-// A value ends at the cursor, and whether some object in it has a name twice or too many members; or there is no value.
-#[derive(Clone, Copy)]
-pub enum Scan {
-    To(json_blocks::Cursor, bool),
-    Bad,
-}
-
-// The key to keep for a name that is new in its object, or that the name is known there.
-#[derive(Clone, Copy)]
-pub enum Fresh {
-    Key(u32),
-    Known,
+impl TextError {
+    // Document 01's number of the refusal.
+    pub fn refusal(self) -> u64
+        ensures { result ≡ refusal_of (Err self) }
+    {
+        match self {
+            TextError::NotJson => 2,
+            TextError::BadMembers => 3,
+        }
+    }
 }
 
 // How many names of an object are kept, and whether the object, or one in it, has a name twice or too many members.
@@ -48,28 +47,22 @@ const FEW: usize = 1024;
 
 const SHORT: usize = 4096;
 
-pub fn judge(s: &[u8]) -> Judged
+pub fn judge(s: &[u8]) -> Result<(), TextError>
     ensures { refusal_of result ≡ lowest (judge_rules s.now) }
 {
     if s.len() <= SHORT {
-        return judge_short(s);
+        return judge_in::<FEW>(s);
     }
-    judge_long(s)
+    judge_in::<NAMES>(s)
 }
 
-fn judge_short(s: &[u8]) -> Judged
-    requires { length s.now ≤ 4096 }
+// The same, with room for so many names. Their keys stand apart from their places, so that a look for a key compares many at once.
+fn judge_in<const ROOM: usize>(s: &[u8]) -> Result<(), TextError>
+    requires names_room { NamesRoom nesting s.now 1 0 ROOM }
+    requires most { ROOM ≤ nesting * members }
     ensures { refusal_of result ≡ lowest (judge_rules s.now) }
 {
-    let mut places = [0usize; FEW];
-    let mut keys = [0u32; FEW];
-    judge_with(s, &mut places, &mut keys)
-}
-
-fn judge_long(s: &[u8]) -> Judged
-    ensures { refusal_of result ≡ lowest (judge_rules s.now) }
-{
-    let mut places = [0usize; NAMES];
-    let mut keys = [0u32; NAMES];
+    let mut places = [0usize; ROOM];
+    let mut keys = [0u32; ROOM];
     judge_with(s, &mut places, &mut keys)
 }

@@ -1,15 +1,19 @@
 -- Steps of the definitions of specs/Same.antt and specs/Keys.antt, on plain variables.
-use mathlib.Core.Path.{◌≡◌, refl}
-use mathlib.Core.Bool.{Bool, true, false, ◌&&◌}
+use mathlib.Core.Path.{◌≡◌, refl, ◌∙◌}
+use mathlib.Core.Bool.{Bool, true, false, not, ◌&&◌}
 use mathlib.Core.List.{List, [], ◌∷◌}
-use Prim.Native.Nat.{ℕ, ◌≤◌, ◌<◌, ◌+◌, ◌*◌, ◌%◌}
+use Prim.Native.Nat.{ℕ, ◌<◌, ◌+◌, ◌*◌, ◌%◌}
 use native.Mathlib.Omega.{arith}
-use native.Mathlib.Nat.{mul-le-mul}
 use native.Mathlib.Numerals.{add-one}
-use lib.ListN.{length, get_or, drop, drop_of_length-le}
+use lib.ListN.{length, get_or, drop}
 use lib.Seq.{drop-cons}
-use lib.Dec.{eqb, ltb}
-use borrow.Author.Tests.{eq-eqb, ne_eqb, ltb-true, ltb-false, eqb-true}
+use lib.Dec.{eqb}
+use borrow.Author.Tests.{eq-eqb, ne_eqb, eqb-true}
+use Rattle.std.specs.Option.{is_some}
+use Rattle.std.specs.Prelude.{None, Option, Some}
+use Rattle.json_strings.specs.declared.Position.{Position}
+use Rattle.json_strings.specs.Stream.{stream, next_byte}
+use Rattle.json_strings.proofs.DecodeLaws.{streamed_next, streamed_end}
 use Rattle.json_names.specs.Same.{same}
 use Rattle.json_names.specs.Keys.{key_from}
 
@@ -31,22 +35,11 @@ same_ne k l f = go (same k l) refl where
   go false e = refl
 
 module _ (x w : List ℕ) (i : ℕ) where
-  pub is_end : x ≡ [] → i ≤ length w → eqb i (length w) ≡ same x (drop i w)
+  pub is_short : x ≡ [] → i < length w → false ≡ same x (drop i w)
   unfolding same
-  is_end e l = go (ltb i (length w)) refl where
-    go : (t : Bool) → ltb i (length w) ≡ t → eqb i (length w) ≡ same x (drop i w)
-    go true q =
-        let h : i < length w = ltb-true _ _ q in
-        rw (e, ne_eqb i (length w) (λ z. omega arith), drop-cons w i 0 h)
-    go false q =
-        let h : length w ≤ i = ltb-false _ _ q in
-        rw (e, eq-eqb i (length w) (omega arith), drop_of_length-le w h)
+  is_short e h = rw (e, drop-cons w i 0 h)
 
   module _ (b : ℕ) (y : List ℕ) (e : x ≡ b ∷ y) where
-    pub is_over : length w ≤ i → false ≡ same x (drop i w)
-    unfolding same
-    is_over h = rw (e, drop_of_length-le w h)
-
     pub is_not : i < length w → (b ≡ get_or w i 0 → ⊥) → false ≡ same x (drop i w)
     unfolding same
     is_not h f = rw (e, drop-cons w i 0 h, ne_eqb _ _ f)
@@ -78,6 +71,19 @@ module _ (x z : List ℕ) where
       unfolding same
       both_on h = rw (e, f, eq-eqb _ _ h)
 
+-- one text has ended, and the other has where there is no next byte
+no_more : {A : Type 0} (g : Option A) (t : Bool) → is_some g ≡ not t → t ≡ not (is_some g)
+no_more g true e = rw e
+no_more g false e = rw e
+
+module _ (s : List ℕ) (p : Position) (g : Option (ℕ × Position)) (e : g ≡ next_byte s p) (t : Bool) (f : is_some g ≡ not t) (x : List ℕ) (h : x ≡ []) where
+  pub end_right : t ≡ same (stream s p) x
+  unfolding same
+  end_right = no_more g t f ∙ go g refl where
+    go : (r : Option (ℕ × Position)) → g ≡ r → not (is_some r) ≡ same (stream s p) x
+    go None q = rw (streamed_end s p g e q, h)
+    go (Some (b, c)) q = rw (streamed_next s p g e b c q, h)
+
 -- ---- keys
 module _ (m h : ℕ) (x : List ℕ) where
   pub key_end : x ≡ [] → h ≡ key_from m h x
@@ -87,10 +93,3 @@ module _ (m h : ℕ) (x : List ℕ) where
   pub key_on : (b : ℕ) (y : List ℕ) → x ≡ b ∷ y → (k : ℕ) → k ≡ (h * m + b) % 4294967296 → key_from m k y ≡ key_from m h x
   unfolding key_from
   key_on b y e k f = rw (e, f)
-
--- one step of a key fits 64 bits
-pub key_fits : (m h b : ℕ) → m < 4294967296 → h < 4294967296 → b < 256 → h * m + b < 18446744073709551616
-key_fits m h b k l n =
-    let p : h ≤ 4294967295 = omega arith in
-    let q : m ≤ 4294967295 = omega arith in
-    omega (arith, mul-le-mul p q)

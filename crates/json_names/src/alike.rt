@@ -4,54 +4,40 @@ ghost use Rattle.json_names.specs.Plain.{alike};
 ghost use Rattle.json_names.specs.Same.{same};
 
 use crate::Places;
-use json_blocks::blocks::{both, has_room, is_ordinary};
+use json_blocks::blocks::{has_room, is_ordinary};
 
 // How many bytes are compared at once.
 const BLOCK: usize = 16;
 
 // The same n bytes stand at two places, each for itself. No byte ends the loop, so that it is compiled to a comparison of them all.
+#[tactic(auto, using(crate::proofs::PlainLaws::alike_on, crate::proofs::PlainLaws::alike_end))]
 pub(crate) fn are_alike(s: &[u8], i: usize, t: &[u8], j: usize, n: usize) -> bool
     requires n_in_bounds { i + n ≤ length s.now }
     requires n_in_bounds_2 { j + n ≤ length t.now }
     ensures { result ≡ alike n s.now i t.now j }
 {
     let mut ok = true;
-    let mut k = 0usize;
-    while k < n {
+    for k in 0..n {
         let x = s[i + k];
         let y = t[j + k];
-        let e = x == y;
-        let o = is_ordinary(x);
-        let p = both(e, o);
-        ok = both(ok, p);
-        k += 1;
+        ok &= (x == y) & is_ordinary(x);
     }
     ok
 }
 
 // Past the bytes that two strings begin with alike, n at a time.
+#[tactic(auto, using(crate::proofs::PlainLaws::all_alike))]
 pub(crate) fn skip_alike(s: &[u8], a: usize, t: &[u8], b: usize, n: usize) -> Places
     requires { 0 < n }
     ensures { same (decoded_from s.now result.a) (decoded_from t.now result.b) ≡ same (decoded_from s.now a) (decoded_from t.now b) }
 {
     let mut i = a;
     let mut j = b;
-    loop {
-        if has_room(s, i, n) {
-            if has_room(t, j, n) {
-                if are_alike(s, i, t, j, n) {
-                    i += n;
-                    j += n;
-                } else {
-                    return Places { a: i, b: j };
-                }
-            } else {
-                return Places { a: i, b: j };
-            }
-        } else {
-            return Places { a: i, b: j };
-        }
+    while has_room(s, i, n) && has_room(t, j, n) && are_alike(s, i, t, j, n) {
+        i += n;
+        j += n;
     }
+    Places { a: i, b: j }
 }
 
 // Past the bytes that two strings begin with alike, each of which stands for itself.
@@ -59,7 +45,5 @@ pub(crate) fn alike_prefix(s: &[u8], a: usize, t: &[u8], b: usize) -> Places
     ensures { same (decoded_from s.now result.a) (decoded_from t.now result.b) ≡ same (decoded_from s.now a) (decoded_from t.now b) }
 {
     let p = skip_alike(s, a, t, b, BLOCK);
-    let i = p.a;
-    let j = p.b;
-    skip_alike(s, i, t, j, 1)
+    skip_alike(s, p.a, t, p.b, 1)
 }

@@ -11,17 +11,10 @@ ghost use Rattle.json_names.specs.Same.{same};
 ghost use Rattle.json_names.specs.Keys.{key_by, key_of, second_key_of};
 
 use crate::alike::alike_prefix;
-use crate::plain::{FIRST, SECOND, mix};
+use crate::plain::{BASIS, FIRST, SECOND, mix};
 use json_blocks::Cursor;
-use json_strings::{Position, Stream, next_byte};
+use json_strings::{Position, next_byte};
 pub use plain::keyed_string;
-
-// Where a string ends, and its key; or that there is none.
-#[derive(Clone, Copy)]
-pub enum Keyed {
-    To(Cursor, u32),
-    Bad,
-}
 
 // Past the plain bytes at the beginning of a string, with the key so far.
 #[derive(Clone, Copy)]
@@ -42,33 +35,28 @@ pub fn text_from_is(s: &[u8], from: Position, word: &[u8]) -> bool
     ensures { result ≡ same (stream s.now from) word.now }
 {
     let mut p = from;
-    let mut i = 0usize;
-    loop {
-        let g = next_byte(s, p);
-        let Stream::Next(b, q) = g else {
-            return i == word.len();
+    for w in word {
+        let Some((b, q)) = next_byte(s, p) else {
+            return false;
         };
-        if i < word.len() {
-            if b == word[i] {
-                p = q;
-                i += 1;
-            } else {
-                return false;
-            }
-        } else {
+        if b != *w {
             return false;
         }
+        p = q;
     }
+    next_byte(s, p).is_none()
 }
 
 // The string at a place has the decoded text word.
+#[tactic(auto, using(json_strings::proofs::DecodeLaws::stream_start))]
 pub fn text_is(s: &[u8], at: usize, word: &[u8]) -> bool
     ensures { result ≡ same (decoded_from s.now at) word.now }
 {
-    text_from_is(s, Position { at: at, passed: 0 }, word)
+    text_from_is(s, Position { at, passed: 0 }, word)
 }
 
 // The strings at two places have the same decoded text.
+#[tactic(auto, using(json_strings::proofs::DecodeLaws::stream_start))]
 pub fn same_text(s: &[u8], a: usize, t: &[u8], b: usize) -> bool
     ensures { result ≡ same (decoded_from s.now a) (decoded_from t.now b) }
 {
@@ -82,41 +70,30 @@ pub fn same_text(s: &[u8], a: usize, t: &[u8], b: usize) -> bool
         passed: 0,
     };
     loop {
-        let g = next_byte(s, p);
-        let h = next_byte(t, q);
-        let Stream::Next(x, i) = g else {
-            let Stream::Next(y, j) = h else {
-                return true;
-            };
-            return false;
-        };
-        let Stream::Next(y, j) = h else {
-            return false;
-        };
-        if x == y {
-            p = i;
-            q = j;
-        } else {
-            return false;
+        match (next_byte(s, p), next_byte(t, q)) {
+            (Some((x, i)), Some((y, j))) if x == y => {
+                p = i;
+                q = j;
+            }
+            (None, None) => return true,
+            _ => return false,
         }
     }
 }
 
 // A number that strings of the same decoded text share, by its multiplier.
+#[tactic(auto, using(json_strings::proofs::DecodeLaws::stream_laws, crate::proofs::SameLaws::key_on, crate::proofs::SameLaws::key_end))]
 pub(crate) fn key_by(s: &[u8], at: usize, m: u64) -> u32
     requires { m < 4294967296 }
     ensures { result ≡ key_by m (decoded_from s.now at) }
 {
-    let mut h = 2166136261u64;
-    let mut p = Position { at: at, passed: 0 };
-    loop {
-        let g = next_byte(s, p);
-        let Stream::Next(b, q) = g else {
-            return h as u32;
-        };
+    let mut h = BASIS;
+    let mut p = Position { at, passed: 0 };
+    while let Some((b, q)) = next_byte(s, p) {
         h = mix(m, h, b);
         p = q;
     }
+    h as u32
 }
 
 // The key of the string at a place.

@@ -46,25 +46,19 @@ fn too_long() -> State
     }
 }
 
+#[tactic(auto, unfolding(json_automaton::specs::State::fed))]
 fn state_after(st: State, chunk: &[u8]) -> State
     ensures { result ≡ fed st chunk.now }
 {
-    let place = st.place;
-    let token = st.token;
-    let stack = st.stack;
-    let count = st.count;
     let n = chunk.len();
-    if Limits::METADATA < n {
-        return too_long();
-    }
-    if Limits::METADATA - n < count {
+    if Limits::METADATA < n || Limits::METADATA - n < st.count {
         return too_long();
     }
     let c = run(
         Control {
-            place: place,
-            token: token,
-            stack: stack,
+            place: st.place,
+            token: st.token,
+            stack: st.stack,
         },
         chunk,
     );
@@ -72,71 +66,57 @@ fn state_after(st: State, chunk: &[u8]) -> State
         place: c.place,
         token: c.token,
         stack: c.stack,
-        count: count + n,
+        count: st.count + n,
     }
 }
 
 // One chunk more: 18 if no chunks lead to the state, or the state after it.
+#[tactic(auto, unfolding(crate::specs::Stream::fed_answer))]
 pub fn feed(st: State, chunk: &[u8]) -> Fed
     ensures { result ≡ fed_answer st chunk.now }
 {
-    if is_reachable(st) {
-        let next = state_after(st, chunk);
-        let place = next.place;
-        if place == Control::LOST {
-            return Fed {
-                refusal: 0,
-                lost: 1,
-                state: next,
-            };
-        }
+    if !is_reachable(st) {
         return Fed {
-            refusal: 0,
+            refusal: 18,
             lost: 0,
-            state: next,
+            state: State {
+                place: 0,
+                token: 0,
+                stack: 0,
+                count: 0,
+            },
         };
     }
+    let next = state_after(st, chunk);
     Fed {
-        refusal: 18,
-        lost: 0,
-        state: State {
-            place: 0,
-            token: 0,
-            stack: 0,
-            count: 0,
-        },
+        refusal: 0,
+        lost: u64::from(next.place == Control::LOST),
+        state: next,
     }
 }
 
 // The bytes so far are a text.
+#[tactic(auto, unfolding(json_automaton::specs::Control::accepting))]
 fn is_text(place: u64, token: u64, stack: u64) -> bool
     ensures { result ≡ accepting (record { place = place; token = token; stack = stack }) }
 {
-    if is_whole(token) {
-        if place == Control::AFTER {
-            return stack < 2;
-        }
-        return false;
-    }
-    false
+    is_whole(token) && place == Control::AFTER && stack < 2
 }
 
 // After the last chunk: 18 if no chunks lead to the state; 1, 2 or 0 for the text of all chunks.
+#[tactic(auto, unfolding(refusals::specs::Refusals::lowest))]
 pub fn finish(st: State) -> u64
     ensures { result ≡ finished st }
 {
-    if is_reachable(st) {
-        let count = st.count;
-        if count == 0 {
-            return 1;
-        }
-        if Limits::METADATA < count {
-            return 1;
-        }
-        if is_text(st.place, st.token, st.stack) {
-            return 0;
-        }
-        return 2;
+    if !is_reachable(st) {
+        return 18;
     }
-    18
+    if st.count == 0 || Limits::METADATA < st.count {
+        return 1;
+    }
+    if is_text(st.place, st.token, st.stack) {
+        0
+    } else {
+        2
+    }
 }

@@ -19,31 +19,23 @@ const COSTS: [u64; 38] = [
 fn cost_of(t: u64) -> u64
     ensures { (result ≡ cost t) × (result ≤ 10) }
 {
-    if t < 38 {
-        let i = t as usize;
-        return COSTS[i];
-    }
-    0
+    if t < 38 { COSTS[t as usize] } else { 0 }
 }
 
 // The innermost open bracket is an object's.
+#[tactic(auto, unfolding(json_automaton::specs::Reachable::in_object))]
 fn in_object(stack: u64) -> bool
     ensures { result ≡ in_object stack }
 {
-    if stack < 2 {
-        return false;
-    }
-    is_object_top(stack)
+    2 <= stack && is_object_top(stack)
 }
 
 // The bytes of `"":` after an object's brace.
+#[tactic(auto, unfolding(json_automaton::specs::Reachable::extra))]
 fn extra_of(stack: u64) -> u64
     ensures { (result ≡ extra stack) × (result ≤ 3) }
 {
-    if in_object(stack) {
-        return 3;
-    }
-    0
+    if in_object(stack) { 3 } else { 0 }
 }
 
 // The fewest bytes up to and with the innermost open bracket.
@@ -51,16 +43,13 @@ fn opened_of(stack: u64) -> u64
     ensures { (result ≡ opened stack) × (result ≤ 128) }
 {
     let mut o = stack;
-    let mut sum = 0u64;
-    let mut n = 0usize;
-    while n < Limits::NESTING {
+    let mut sum = 0;
+    for _ in 0..Limits::NESTING {
         if o < 2 {
             return sum;
         }
-        o = o / 2;
-        let e = extra_of(o);
-        sum = sum + e + 1;
-        n += 1;
+        o /= 2;
+        sum += extra_of(o) + 1;
     }
     sum
 }
@@ -73,11 +62,11 @@ fn ready_of(stack: u64) -> u64
 }
 
 // The fewest bytes that lead to a place, a token and brackets.
+#[tactic(auto, unfolding(json_automaton::specs::Reachable::fewest))]
 fn fewest_of(place: u64, token: u64, stack: u64) -> u64
     ensures { result ≡ fewest place token stack }
 {
     match place {
-        0 => 0,
         1 => ready_of(stack),
         2 => opened_of(stack),
         3 => ready_of(stack) + 2,
@@ -91,47 +80,31 @@ fn fewest_of(place: u64, token: u64, stack: u64) -> u64
 fn value_consistent(t: u64, stack: u64) -> bool
     ensures { result ≡ (eqb t 0 && (eqb stack 1 || in_object stack)) }
 {
-    if t == 0 {
-        if stack == 1 {
-            return true;
-        }
-        return in_object(stack);
-    }
-    false
+    t == 0 && (stack == 1 || in_object(stack))
 }
 
 fn group_consistent(t: u64, stack: u64) -> bool
     ensures { result ≡ (eqb t 0 && leb 2 stack) }
 {
-    if t == 0 {
-        return 2 <= stack;
-    }
-    false
+    t == 0 && 2 <= stack
 }
 
 fn colon_consistent(t: u64, stack: u64) -> bool
     ensures { result ≡ (leb t 20 && in_object stack) }
 {
-    if t <= 20 {
-        return in_object(stack);
-    }
-    false
+    t <= 20 && in_object(stack)
 }
 
+#[tactic(auto, unfolding(json_automaton::specs::Reachable::consistent))]
 fn is_consistent(place: u64, token: u64, stack: u64) -> bool
     ensures { result ≡ consistent place token stack }
 {
-    if stack < 1 {
-        return false;
-    }
-    if Control::FULL + Control::FULL <= stack {
+    if stack < 1 || Control::FULL + Control::FULL <= stack {
         return false;
     }
     match place {
-        0 => false,
         1 => value_consistent(token, stack),
-        2 => group_consistent(token, stack),
-        3 => group_consistent(token, stack),
+        2 | 3 => group_consistent(token, stack),
         4 => colon_consistent(token, stack),
         5 => token <= 37,
         _ => false,
@@ -142,34 +115,18 @@ fn is_consistent(place: u64, token: u64, stack: u64) -> bool
 fn is_lost_state(token: u64, stack: u64, count: usize) -> bool
     ensures { result ≡ (eqb token 0 && eqb stack 0 && leb 1 count && leb count (metadata + 1)) }
 {
-    if token == 0 {
-        if stack == 0 {
-            if count < 1 {
-                return false;
-            }
-            return count <= TOO_LONG;
-        }
-        return false;
-    }
-    false
+    token == 0 && stack == 0 && 1 <= count && count <= TOO_LONG
 }
 
 // Some chunks lead to the state.
+#[tactic(auto, unfolding(json_automaton::specs::Reachable::is_reachable))]
 pub(crate) fn is_reachable(st: State) -> bool
     ensures { result ≡ is_reachable st }
 {
-    let place = st.place;
-    let token = st.token;
-    let stack = st.stack;
-    let count = st.count;
-    if place == Control::LOST {
-        return is_lost_state(token, stack, count);
+    if st.place == Control::LOST {
+        return is_lost_state(st.token, st.stack, st.count);
     }
-    if is_consistent(place, token, stack) {
-        if fewest_of(place, token, stack) <= count as u64 {
-            return count <= Limits::METADATA;
-        }
-        return false;
-    }
-    false
+    is_consistent(st.place, st.token, st.stack)
+        && fewest_of(st.place, st.token, st.stack) <= st.count as u64
+        && st.count <= Limits::METADATA
 }

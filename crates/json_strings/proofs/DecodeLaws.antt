@@ -1,19 +1,16 @@
 -- Steps of the definitions of specs/Decode.antt, on plain variables.
+use Rattle.std.specs.Prelude.{None, Option, Some}
 use mathlib.Core.Path.{◌≡◌, refl, sym, ap, subst, ◌∙◌}
-use mathlib.Core.Bool.{Bool, true, false, cond, ◌&&◌, ◌||◌}
+use mathlib.Core.Bool.{Bool, true, false, cond, ◌||◌}
 use mathlib.Core.List.{List, [], ◌∷◌, ◌++◌}
-use Prim.Native.Nat.{ℕ, zero, suc, ◌≤◌, ◌<◌, ◌+◌, ◌-◌, ◌*◌, ◌/◌, ◌%◌}
+use Prim.Native.Nat.{ℕ, zero, suc, ◌≤◌, ◌<◌, ◌+◌, ◌-◌, ◌/◌, ◌%◌}
 use native.Mathlib.Omega.{arith}
 use native.Mathlib.Numerals.{add-one}
 use lib.ListN.{length, get_or, take, drop, drop_of_length-le}
 use lib.Seq.{take-length, drop-cons}
 use lib.Dec.{eqb, ltb, leb}
-use borrow.Author.Tests.{eq-eqb, ne_eqb, lt-ltb, le-ltb, lt-leb, le-leb, ltb-true, ltb-false, leb-false, eqb-true}
+use borrow.Author.Tests.{eq-eqb, ne_eqb, lt-ltb, le-ltb, lt-leb, le-leb, ltb-true, ltb-false, leb-false, eqb-true, eqb-false}
 use Rattle.json_blocks.specs.declared.Cursor.{Cursor}
-use Rattle.json_characters.specs.declared.Hex4.{Hex4}
-use Rattle.json_characters.specs.declared.Hex4.TheVariants as H
-use Rattle.json_blocks.specs.declared.Read.{Read}
-use Rattle.json_blocks.specs.declared.Read.TheVariants as R
 use Rattle.json_blocks.specs.Turns.{Turn, on, out, run_text}
 use Rattle.json_blocks.specs.TextBytes.{byte, to, within, skip_while}
 use Rattle.json_blocks.specs.Blocks.{plain_byte}
@@ -22,11 +19,7 @@ use Rattle.json_blocks.proofs.TurnLaws.{Advances, run_out, run_on}
 use Rattle.json_blocks.proofs.ByteLaws.{inside, skip_onward, skip_pass, Onward, onward_is}
 use Rattle.json_blocks.proofs.BlockLaws.{plain_is, no_plain, plain_inside}
 use Rattle.json_characters.proofs.StringLaws.{character_plain, character_onward}
-use Rattle.json_strings.specs.declared.Unit.{Unit}
-use Rattle.json_strings.specs.declared.Unit.TheVariants.{Byte, Escape}
 use Rattle.json_strings.specs.declared.Position.{Position}
-use Rattle.json_strings.specs.declared.Stream.{Stream}
-use Rattle.json_strings.specs.declared.Stream.TheVariants.{Next, End}
 use Rattle.json_strings.specs.Decode.{short_code, unit_hex4, pair_code, low_unit, unicode_unit, escape_unit, unit_at, unit_bytes, unit_end, ends_string}
 use Rattle.json_strings.specs.Utf8.{utf8}
 use Rattle.json_strings.specs.Decode.{decoded_units, decoded_from, body_onward, body_turn}
@@ -34,27 +27,27 @@ use Rattle.json_strings.specs.Stream.{start_at, byte_more, bytes_at, stream, nex
 use Rattle.json_strings.specs.Utf8Code.{later_byte}
 
 -- ---- a unit passes a byte
-data Past (at : ℕ) : Unit → Type 0 where
-  past_byte : Past at Byte
-  past_escape : {p j : ℕ} → at < j → Past at (Escape p j)
+data Past (at : ℕ) : Option (ℕ × ℕ) → Type 0 where
+  past_byte : Past at None
+  past_escape : {p j : ℕ} → at < j → Past at (Some (p, j))
 
-past_cond : {at : ℕ} {a b : Unit} (t : Bool) → Past at a → Past at b → Past at (cond t a b)
+past_cond : {at : ℕ} {a b : (Option (ℕ × ℕ))} (t : Bool) → Past at a → Past at b → Past at (cond t a b)
 past_cond true p q = p
 past_cond false p q = q
 
-hex4_elim : (P : Hex4 → Type 0) (s : List ℕ) (i : ℕ) → P H.Bad → ((n : ℕ) → P (H.Code n (record { at = i + 4 }))) → P (hex4_at s i)
+hex4_elim : (P : Option (ℕ × Cursor) → Type 0) (s : List ℕ) (i : ℕ) → P None → ((n : ℕ) → P (Some (n, (record { at = i + 4 })))) → P (hex4_at s i)
 unfolding hex4_at
 hex4_elim P s i b f =
     digit (hex_value (byte s i)) (digit (hex_value (byte s (i + 1))) (digit (hex_value (byte s (i + 2))) (digit (hex_value (byte s (i + 3))) (f _))))
   where
-    digit : {x : Hex4} (d : ℕ) → P x → P (if_hex d x)
+    digit : {x : (Option (ℕ × Cursor))} (d : ℕ) → P x → P (if_hex d x)
     digit {x} d p = go (ltb 15 d) where
-      go : (t : Bool) → P (cond t H.Bad x)
+      go : (t : Bool) → P (cond t None x)
       go true = b
       go false = p
 
-past_hex4 : (s : List ℕ) (i at : ℕ) (f : ℕ → ℕ → Unit) → ((n : ℕ) → Past at (f n (i + 4))) → Past at (unit_hex4 (hex4_at s i) f)
-past_hex4 s i at f g = hex4_elim (λ (x : Hex4). Past at (unit_hex4 x f)) s i past_byte g
+past_hex4 : (s : List ℕ) (i at : ℕ) (f : ℕ → ℕ → Option (ℕ × ℕ)) → ((n : ℕ) → Past at (f n (i + 4))) → Past at (unit_hex4 (hex4_at s i) f)
+past_hex4 s i at f g = hex4_elim (λ (x : Option (ℕ × Cursor)). Past at (unit_hex4 x f)) s i past_byte g
 
 module _ (s : List ℕ) where
   past_low : (n i at : ℕ) → at < i → Past at (low_unit s n i)
@@ -62,7 +55,7 @@ module _ (s : List ℕ) where
   past_low n i at l =
       past_cond (eqb (byte s i) 0x5C)
       (past_cond (eqb (byte s (i + 1)) 0x75)
-      (past_hex4 s (i + 2) at (λ m j. cond (within 0xDC00 0xDFFF m) (Escape (pair_code n m) j) Byte)
+      (past_hex4 s (i + 2) at (λ m j. cond (within 0xDC00 0xDFFF m) (Some ((pair_code n m), j)) None)
       (λ m. past_cond (within 0xDC00 0xDFFF m) (past_escape (omega arith)) past_byte))
       past_byte)
       past_byte
@@ -70,7 +63,7 @@ module _ (s : List ℕ) where
   past_unicode : (i at : ℕ) → at < i → Past at (unicode_unit s i)
   unfolding unicode_unit
   past_unicode i at l =
-      past_hex4 s i at (λ n j. cond (within 0xD800 0xDBFF n) (low_unit s n j) (cond (within 0xDC00 0xDFFF n) Byte (Escape n j)))
+      past_hex4 s i at (λ n j. cond (within 0xD800 0xDBFF n) (low_unit s n j) (cond (within 0xDC00 0xDFFF n) None (Some (n, j))))
       (λ n. past_cond (within 0xD800 0xDBFF n) (past_low n (i + 4) at (omega arith))
       (past_cond (within 0xDC00 0xDFFF n) past_byte (past_escape (omega arith))))
 
@@ -85,7 +78,7 @@ module _ (s : List ℕ) where
 
   end_past : (at : ℕ) → at < unit_end at (unit_at s at)
   end_past at = go (past_unit at) where
-    go : {u : Unit} → Past at u → at < unit_end at u
+    go : {u : (Option (ℕ × ℕ))} → Past at u → at < unit_end at u
     go past_byte = omega arith
     go (past_escape p) = p
 
@@ -136,7 +129,7 @@ module _ (s : List ℕ) where
   unfolding decoded_from
   from_end at h = stop (length s) at h
 
-  pub from_unit : (at : ℕ) (u : Unit) → ends_string s at ≡ false → unit_at s at ≡ u → decoded_from s at ≡ unit_bytes s at u ++ decoded_from s (unit_end at u)
+  pub from_unit : (at : ℕ) (u : Option (ℕ × ℕ)) → ends_string s at ≡ false → unit_at s at ≡ u → decoded_from s at ≡ unit_bytes s at u ++ decoded_from s (unit_end at u)
   unfolding decoded_from
   from_unit at u h e = enough (length s) (suc (length s)) at (omega arith) (omega arith) ∙ step (length s) at h ∙ rw e refl
 
@@ -183,7 +176,7 @@ module _ (s : List ℕ) (p : Position) where
   unfolding stream bytes_at
   stream_end h = rw (h, le-ltb p.passed 0 (omega arith))
 
-  module _ (h : ends_string s p.at ≡ false) (u : Unit) (e : unit_at s p.at ≡ u) where
+  module _ (h : ends_string s p.at ≡ false) (u : Option (ℕ × ℕ)) (e : unit_at s p.at ≡ u) where
     bytes_in_lem : bytes_at s p.at ≡ unit_bytes s p.at u
     unfolding bytes_at
     bytes_in_lem = rw (h, e)
@@ -197,9 +190,9 @@ module _ (s : List ℕ) (p : Position) where
     stream_is l = rw (bytes_in_lem, lt-ltb _ _ l, e)
 
 module _ (s : List ℕ) (at : ℕ) where
-  some : (u : Unit) → 0 < length (unit_bytes s at u)
-  some Byte = omega arith
-  some (Escape p j) = utf8_some p
+  some : (u : Option (ℕ × ℕ)) → 0 < length (unit_bytes s at u)
+  some None = omega arith
+  some (Some (p, j)) = utf8_some p
 
   pub stream_start : stream s (start_at at) ≡ decoded_from s at
   stream_start = go (ends_string s at) refl where
@@ -207,7 +200,7 @@ module _ (s : List ℕ) (at : ℕ) where
     go true h = sym (stream_end s (start_at at) h) ∙ sym (from_end s at h)
     go false h = stream_is s (start_at at) h (unit_at s at) refl (some (unit_at s at)) ∙ sym (from_unit s at (unit_at s at) h refl)
 
-module _ (s : List ℕ) (p : Position) (h : ends_string s p.at ≡ false) (u : Unit) (e : unit_at s p.at ≡ u) where
+module _ (s : List ℕ) (p : Position) (h : ends_string s p.at ≡ false) (u : Option (ℕ × ℕ)) (e : unit_at s p.at ≡ u) where
   -- a byte of the unit, and more of it
   stream_more : p.passed + 1 < length (unit_bytes s p.at u) → get_or (unit_bytes s p.at u) p.passed 0 ∷ stream s (byte_more p) ≡ stream s p
   stream_more l =
@@ -228,82 +221,54 @@ start_is p e = ap from (sym e) where
 
 -- ---- the next byte, at the end of a string or at a unit u
 module _ (s : List ℕ) (p : Position) where
-  next_stop : ends_string s p.at ≡ true → End ≡ next_byte s p
+  next_stop : ends_string s p.at ≡ true → None ≡ next_byte s p
   unfolding next_byte bytes_at
   next_stop h = rw (h, le-ltb p.passed 0 (omega arith))
 
-  module _ (h : ends_string s p.at ≡ false) (u : Unit) (e : unit_at s p.at ≡ u) where
-    next_none : length (unit_bytes s p.at u) ≤ p.passed → End ≡ next_byte s p
+  module _ (h : ends_string s p.at ≡ false) (u : Option (ℕ × ℕ)) (e : unit_at s p.at ≡ u) where
+    next_none : length (unit_bytes s p.at u) ≤ p.passed → None ≡ next_byte s p
     unfolding next_byte
     next_none l = rw (bytes_in_lem s p h u e, le-ltb _ _ l)
 
-    next_more : p.passed + 1 < length (unit_bytes s p.at u) → Next (get_or (unit_bytes s p.at u) p.passed 0) (byte_more p) ≡ next_byte s p
+    next_more : p.passed + 1 < length (unit_bytes s p.at u) → Some ((get_or (unit_bytes s p.at u) p.passed 0), (byte_more p)) ≡ next_byte s p
     unfolding next_byte next_position
     next_more l =
         let m : p.passed < length (unit_bytes s p.at u) = omega arith in
         rw (bytes_in_lem s p h u e, lt-ltb _ _ m, lt-ltb _ _ l)
 
     next_last : p.passed < length (unit_bytes s p.at u) → length (unit_bytes s p.at u) ≤ p.passed + 1
-        → Next (get_or (unit_bytes s p.at u) p.passed 0) (start_at (unit_end p.at u)) ≡ next_byte s p
+        → Some ((get_or (unit_bytes s p.at u) p.passed 0), (start_at (unit_end p.at u))) ≡ next_byte s p
     unfolding next_byte next_position
     next_last l m = rw (bytes_in_lem s p h u e, lt-ltb _ _ l, le-ltb _ _ m, e)
 
--- ---- units, as the code reads them
-module _ (s : List ℕ) (n at b : ℕ) (eb : b ≡ byte s at) where
-  pub low_1 : (b ≡ 0x5C → ⊥) → Byte ≡ low_unit s n at
-  unfolding low_unit
-  low_1 h = rw (← eb, ne_eqb _ _ h)
+-- a byte that stands for itself
+module _ (s : List ℕ) (p : Position) (h : ends_string s p.at ≡ false) (e : unit_at s p.at ≡ None) where
+  own_byte : cond (eqb p.passed 0) (Some ((byte s p.at), (start_at (p.at + 1)))) None ≡ next_byte s p
+  own_byte = go (eqb p.passed 0) refl where
+    go : (t : Bool) → eqb p.passed 0 ≡ t → cond t (Some ((byte s p.at), (start_at (p.at + 1)))) None ≡ next_byte s p
+    go true q =
+        let z : p.passed ≡ 0 = eqb-true _ _ q in
+        let n = next_last s p h None e (omega arith) (omega arith) in
+        ap (λ (k : ℕ). Some ((get_or (byte s p.at ∷ []) k 0), (start_at (p.at + 1)))) (sym z) ∙ n
+    go false q = let z : p.passed ≡ 0 → ⊥ = eqb-false _ _ q in next_none s p h None e (omega arith)
 
-  module _ (u : ℕ) (hb : b ≡ 0x5C) (eu : u ≡ byte s (at + 1)) where
-    pub low_2 : (u ≡ 0x75 → ⊥) → Byte ≡ low_unit s n at
+-- ---- units
+module _ (s : List ℕ) (n at b : ℕ) (eb : b ≡ byte s at) (u : ℕ) (hb : b ≡ 0x5C) (eu : u ≡ byte s (at + 1)) where
+  module _ (f : Option (ℕ × Cursor)) (hu : u ≡ 0x75) (ef : f ≡ hex4_at s (at + 2)) (m : ℕ) (c : Cursor) (h : f ≡ Some (m, c)) where
+    pub low_4 : (p : ℕ) → within 0xDC00 0xDFFF m ≡ true → p ≡ pair_code n m → Some (p, c.at) ≡ low_unit s n at
     unfolding low_unit
-    low_2 h = rw (← eb, eq-eqb _ _ hb, ← eu, ne_eqb _ _ h)
+    low_4 p t e = rw (← eb, eq-eqb _ _ hb, ← eu, eq-eqb _ _ hu, ← ef, h, t, e)
 
-    module _ (f : Hex4) (hu : u ≡ 0x75) (ef : f ≡ hex4_at s (at + 2)) where
-      pub low_3 : f ≡ H.Bad → Byte ≡ low_unit s n at
-      unfolding low_unit
-      low_3 h = rw (← eb, eq-eqb _ _ hb, ← eu, eq-eqb _ _ hu, ← ef, h)
-
-      module _ (m : ℕ) (c : Cursor) (h : f ≡ H.Code m c) where
-        pub low_4 : (p : ℕ) → within 0xDC00 0xDFFF m ≡ true → p ≡ pair_code n m → Escape p c.at ≡ low_unit s n at
-        unfolding low_unit
-        low_4 p t e = rw (← eb, eq-eqb _ _ hb, ← eu, eq-eqb _ _ hu, ← ef, h, t, e)
-
-        pub low_5 : within 0xDC00 0xDFFF m ≡ false → Byte ≡ low_unit s n at
-        unfolding low_unit
-        low_5 t = rw (← eb, eq-eqb _ _ hb, ← eu, eq-eqb _ _ hu, ← ef, h, t)
-
-module _ (s : List ℕ) (at : ℕ) (f : Hex4) (ef : f ≡ hex4_at s at) where
-  pub unicode_1 : f ≡ H.Bad → Byte ≡ unicode_unit s at
+module _ (s : List ℕ) (at : ℕ) (f : Option (ℕ × Cursor)) (ef : f ≡ hex4_at s at) (n : ℕ) (c : Cursor) (h : f ≡ Some (n, c)) where
+  pub unicode_2 : (r : Option (ℕ × ℕ)) → within 0xD800 0xDBFF n ≡ true → r ≡ low_unit s n c.at → r ≡ unicode_unit s at
   unfolding unicode_unit
-  unicode_1 h = rw (← ef, h)
+  unicode_2 r t e = rw (← ef, h, t) e
 
-  module _ (n : ℕ) (c : Cursor) (h : f ≡ H.Code n c) where
-    pub unicode_2 : (r : Unit) → within 0xD800 0xDBFF n ≡ true → r ≡ low_unit s n c.at → r ≡ unicode_unit s at
-    unfolding unicode_unit
-    unicode_2 r t e = rw (← ef, h, t) e
-
-    pub unicode_3 : within 0xD800 0xDBFF n ≡ false → within 0xDC00 0xDFFF n ≡ true → Byte ≡ unicode_unit s at
-    unfolding unicode_unit
-    unicode_3 t u = rw (← ef, h, t, u)
-
-    pub unicode_4 : within 0xD800 0xDBFF n ≡ false → within 0xDC00 0xDFFF n ≡ false → Escape n c.at ≡ unicode_unit s at
-    unfolding unicode_unit
-    unicode_4 t u = rw (← ef, h, t, u)
+  pub unicode_4 : within 0xD800 0xDBFF n ≡ false → within 0xDC00 0xDFFF n ≡ false → Some (n, c.at) ≡ unicode_unit s at
+  unfolding unicode_unit
+  unicode_4 t u = rw (← ef, h, t, u)
 
 module _ (s : List ℕ) (at b p : ℕ) (eb : b ≡ byte s at) (ep : p ≡ short_code b) where
-  pub escape_1 : (r : Unit) → p ≡ 256 → b ≡ 0x75 → r ≡ unicode_unit s (at + 1) → r ≡ escape_unit s at
-  unfolding escape_unit
-  escape_1 r h g e = rw (← eb, ← ep, eq-eqb _ _ h, eq-eqb _ _ g) e
-
-  pub escape_2 : p ≡ 256 → (b ≡ 0x75 → ⊥) → Byte ≡ escape_unit s at
-  unfolding escape_unit
-  escape_2 h g = rw (← eb, ← ep, eq-eqb _ _ h, ne_eqb _ _ g)
-
-  pub escape_3 : (p ≡ 256 → ⊥) → Escape p (at + 1) ≡ escape_unit s at
-  unfolding escape_unit
-  escape_3 h = rw (← eb, ← ep, ne_eqb _ _ h)
-
   -- a short escape's letter stands inside the text
   pub short_inside : (p ≡ 256 → ⊥) → at < length s
   unfolding short_code
@@ -313,14 +278,14 @@ module _ (s : List ℕ) (at b p : ℕ) (eb : b ≡ byte s at) (ep : p ≡ short_
     go (suc b) e = omega arith
 
 -- ---- the next byte
-pub unit_plain : (s : List ℕ) (at : ℕ) → (byte s at ≡ 0x5C → ⊥) → unit_at s at ≡ Byte
+pub unit_plain : (s : List ℕ) (at : ℕ) → (byte s at ≡ 0x5C → ⊥) → unit_at s at ≡ None
 unfolding unit_at
 unit_plain s at h = rw (ne_eqb _ _ h)
 
-pub next_over : (s : List ℕ) (p : Position) → length s ≤ p.at → End ≡ next_byte s p
+pub next_over : (s : List ℕ) (p : Position) → length s ≤ p.at → None ≡ next_byte s p
 next_over s p h = next_stop s p (ends_over s p.at h)
 
-module _ (s : List ℕ) (at : ℕ) (l : at < length s) (eb : byte s at ≡ 0x5C) (u : Unit) (eu : u ≡ escape_unit s (at + 1)) where
+module _ (s : List ℕ) (at : ℕ) (l : at < length s) (eb : byte s at ≡ 0x5C) (u : Option (ℕ × ℕ)) (eu : u ≡ escape_unit s (at + 1)) where
   goes : ends_string s at ≡ false
   goes = ends_not s at l (λ z. omega arith)
 
@@ -329,43 +294,35 @@ module _ (s : List ℕ) (at : ℕ) (l : at < length s) (eb : byte s at ≡ 0x5C)
   unit_escape = rw (eq-eqb _ _ eb, ← eu)
 
 module _ (s : List ℕ) (p : Position) (l : p.at < length s) where
-  pub next_quote : byte s p.at ≡ 0x22 → End ≡ next_byte s p
+  pub next_quote : byte s p.at ≡ 0x22 → None ≡ next_byte s p
   next_quote h = next_stop s p (ends_quote s p.at l h)
 
   module _ (h : byte s p.at ≡ 0x5C → ⊥) (q : byte s p.at ≡ 0x22 → ⊥) where
-    pub next_plain : p.passed ≡ 0 → Next (byte s p.at) (start_at (p.at + 1)) ≡ next_byte s p
-    next_plain e =
-        let n = next_last s p (ends_not s p.at l q) Byte (unit_plain s p.at h) (omega arith) (omega arith) in
-        ap (λ (k : ℕ). Next (get_or (byte s p.at ∷ []) k 0) (start_at (p.at + 1))) (sym e) ∙ n
+    pub next_own : cond (eqb p.passed 0) (Some ((byte s p.at), (start_at (p.at + 1)))) None ≡ next_byte s p
+    next_own = own_byte s p (ends_not s p.at l q) (unit_plain s p.at h)
 
-    pub next_plain_none : (p.passed ≡ 0 → ⊥) → End ≡ next_byte s p
-    next_plain_none f = next_none s p (ends_not s p.at l q) Byte (unit_plain s p.at h) (omega arith)
+    pub next_plain : p.passed ≡ 0 → Some ((byte s p.at), (start_at (p.at + 1))) ≡ next_byte s p
+    next_plain e = rw (eq-eqb _ _ e) at next_own
 
-  module _ (eb : byte s p.at ≡ 0x5C) (u : Unit) (eu : u ≡ escape_unit s (p.at + 1)) where
-    module _ (h : u ≡ Byte) where
-      pub escape_byte : p.passed ≡ 0 → Next 0x5C (start_at (p.at + 1)) ≡ next_byte s p
-      escape_byte e =
-          let n = next_last s p (goes s p.at l eb u eu) Byte (unit_escape s p.at l eb u eu ∙ h) (omega arith) (omega arith) in
-          ap (λ (b : ℕ). Next b (start_at (p.at + 1))) (sym eb ∙ ap (λ (k : ℕ). get_or (byte s p.at ∷ []) k 0) (sym e)) ∙ n
+  module _ (eb : byte s p.at ≡ 0x5C) (u : Option (ℕ × ℕ)) (eu : u ≡ escape_unit s (p.at + 1)) where
+    pub escape_own : u ≡ None → cond (eqb p.passed 0) (Some (0x5C, (start_at (p.at + 1)))) None ≡ next_byte s p
+    escape_own h = let e = own_byte s p (goes s p.at l eb u eu) (unit_escape s p.at l eb u eu ∙ h) in rw eb at e
 
-      pub escape_byte_none : (p.passed ≡ 0 → ⊥) → End ≡ next_byte s p
-      escape_byte_none f = next_none s p (goes s p.at l eb u eu) Byte (unit_escape s p.at l eb u eu ∙ h) (omega arith)
-
-    module _ (c j n : ℕ) (h : u ≡ Escape c j) (en : n ≡ length (utf8 c)) where
-      pub escape_none : n ≤ p.passed → End ≡ next_byte s p
-      escape_none g = next_none s p (goes s p.at l eb u eu) (Escape c j) (unit_escape s p.at l eb u eu ∙ h) (omega arith)
+    module _ (c j n : ℕ) (h : u ≡ Some (c, j)) (en : n ≡ length (utf8 c)) where
+      pub escape_none : n ≤ p.passed → None ≡ next_byte s p
+      escape_none g = next_none s p (goes s p.at l eb u eu) (Some (c, j)) (unit_escape s p.at l eb u eu ∙ h) (omega arith)
 
       module _ (b : ℕ) (e : b ≡ get_or (utf8 c) p.passed 0) where
-        pub escape_more : p.passed + 1 < n → Next b (byte_more p) ≡ next_byte s p
-        escape_more g = rw e (next_more s p (goes s p.at l eb u eu) (Escape c j) (unit_escape s p.at l eb u eu ∙ h) (omega arith))
+        pub escape_more : p.passed + 1 < n → Some (b, (byte_more p)) ≡ next_byte s p
+        escape_more g = rw e (next_more s p (goes s p.at l eb u eu) (Some (c, j)) (unit_escape s p.at l eb u eu ∙ h) (omega arith))
 
-        pub escape_last : p.passed < n → n ≤ p.passed + 1 → Next b (start_at j) ≡ next_byte s p
-        escape_last f g = rw e (next_last s p (goes s p.at l eb u eu) (Escape c j) (unit_escape s p.at l eb u eu ∙ h) (omega arith) (omega arith))
+        pub escape_last : p.passed < n → n ≤ p.passed + 1 → Some (b, (start_at j)) ≡ next_byte s p
+        escape_last f g = rw e (next_last s p (goes s p.at l eb u eu) (Some (c, j)) (unit_escape s p.at l eb u eu ∙ h) (omega arith) (omega arith))
 
 -- what a next byte says of the stream
-abbrev streamed : List ℕ → Stream → List ℕ
-streamed s (Next b p) = b ∷ stream s p
-streamed s End = []
+abbrev streamed : List ℕ → Option (ℕ × Position) → List ℕ
+streamed s (Some (b, p)) = b ∷ stream s p
+streamed s None = []
 
 stream_by : (s : List ℕ) (p : Position) → streamed s (next_byte s p) ≡ stream s p
 stream_by s p = go (ends_string s p.at) refl where
@@ -385,24 +342,26 @@ stream_by s p = go (ends_string s p.at) refl where
   go false h = inner (ltb p.passed len) refl h
 
 -- g is the next byte from a position on
-module _ (s : List ℕ) (p : Position) (g : Stream) (e : g ≡ next_byte s p) where
-  pub streamed_next : (b : ℕ) (q : Position) → g ≡ Next b q → stream s p ≡ b ∷ stream s q
+module _ (s : List ℕ) (p : Position) (g : Option (ℕ × Position)) (e : g ≡ next_byte s p) where
+  pub streamed_next : (b : ℕ) (q : Position) → g ≡ Some (b, q) → stream s p ≡ b ∷ stream s q
   streamed_next b q h = sym (stream_by s p) ∙ ap (streamed s) (sym e ∙ h)
 
-  pub streamed_end : g ≡ End → stream s p ≡ []
+  pub streamed_end : g ≡ None → stream s p ≡ []
   streamed_end h = sym (stream_by s p) ∙ ap (streamed s) (sym e ∙ h)
 
 pub shorter : (x y : List ℕ) (b : ℕ) → x ≡ b ∷ y → length y < length x
 shorter x y b e = omega (arith, ap length e)
 
+pub ruleset stream_laws = (stream_start, streamed_next, streamed_end, shorter)
+
 -- ---- a string's body by itself
 module _ (s : List ℕ) where
-  body_is : (r : Read) (j : ℕ) → body_onward r ≡ on j → r ≡ to j
-  body_is (R.To c) j e = let m : c.at ≡ j = cc in ap to m
-  body_is R.Bad j e = let z : ◌≡◌ {A = ℕ} 0 1 = cc in absurd (omega arith)
+  body_is : (r : Option Cursor) (j : ℕ) → body_onward r ≡ on j → r ≡ to j
+  body_is (Some c) j e = let m : c.at ≡ j = cc in ap to m
+  body_is None j e = let z : ◌≡◌ {A = ℕ} 0 1 = cc in absurd (omega arith)
 
-  pub past_character : (i : ℕ) (c : Cursor) → character_at s i ≡ R.To c → i < c.at
-  past_character i c e = let l = onward_is (subst (λ (r : Read). Onward (i + 1) r) e (character_onward s i)) in omega arith
+  pub past_character : (i : ℕ) (c : Cursor) → character_at s i ≡ Some c → i < c.at
+  past_character i c e = let l = onward_is (subst (λ (r : Option Cursor). Onward (i + 1) r) e (character_onward s i)) in omega arith
 
   body_advances : Advances s (body_turn s)
   unfolding body_turn
@@ -423,12 +382,12 @@ module _ (s : List ℕ) where
       unfolding body_turn
       body_quote h = run_out s false (body_turn s) i false (rw (lt-leb _ _ l, eq-eqb _ _ h))
 
-      module _ (h : byte s i ≡ 0x22 → ⊥) (r : Read) (er : r ≡ character_at s i) where
-        pub body_bad : r ≡ R.Bad → false ≡ run_text s false (body_turn s) i
+      module _ (h : byte s i ≡ 0x22 → ⊥) (r : Option Cursor) (er : r ≡ character_at s i) where
+        pub body_bad : r ≡ None → false ≡ run_text s false (body_turn s) i
         unfolding body_turn
         body_bad g = run_out s false (body_turn s) i false (rw (lt-leb _ _ l, ne_eqb _ _ h, ← er, g))
 
-        module _ (c : Cursor) (g : r ≡ R.To c) where
+        module _ (c : Cursor) (g : r ≡ Some c) where
           pub body_less : i < c.at
           body_less = past_character i c (sym er ∙ g)
 
@@ -450,6 +409,8 @@ module _ (s : List ℕ) where
     pub body_skip_on : run_text s false (body_turn s) j ≡ run_text s false (body_turn s) i
     body_skip_on = rw e (skip_pass plain_byte no_plain s (run_text s false (body_turn s)) body_plain (i + 1) ∙ body_plain i t)
 
+pub ruleset body_laws = (body_end, body_quote, body_bad, body_less, body_on, body_skip_less, body_skip_on)
+
 -- ---- bytes that are neither a backslash nor a quote, up to the end z, stand for themselves
 module _ (s : List ℕ) where
   pub plain_part : (z : ℕ) → ends_string s z ≡ true → z ≤ length s → (n at : ℕ) → at + n ≡ z
@@ -459,7 +420,7 @@ module _ (s : List ℕ) where
       let b = h at (omega arith) (omega arith) in
       let r = plain_part z e l n (at + 1) (omega arith) (λ i f g. h i (omega arith) g) in
       let m : at < length s = omega arith in
-      rw (from_unit s at Byte (ends_not s at m b.1) (unit_plain s at b.0), r, add-one at, drop-cons s at 0 m)
+      rw (from_unit s at None (ends_not s at m b.1) (unit_plain s at b.0), r, add-one at, drop-cons s at 0 m)
 
   pub plain_whole : ((i : ℕ) → i < length s → (byte s i ≡ 0x5C → ⊥) × (byte s i ≡ 0x22 → ⊥)) → decoded_from s 0 ≡ s
   plain_whole h = plain_part (length s) (ends_over s (length s) (omega arith)) (omega arith) (length s) 0 (omega arith) (λ i f g. h i g) ∙ take-length s

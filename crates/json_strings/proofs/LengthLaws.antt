@@ -1,20 +1,18 @@
 -- An escape's code point is one of Unicode's, and a decoded text is no longer than the bytes it is decoded from.
+use Rattle.json_blocks.specs.declared.Cursor.{Cursor}
+use Rattle.std.specs.Prelude.{None, Option, Some}
 use mathlib.Core.Path.{◌≡◌, refl, subst}
 use mathlib.Core.Bool.{Bool, true, false, ◌||◌}
 use mathlib.Core.List.{List, [], ◌∷◌, ◌++◌}
-use Prim.Native.Nat.{ℕ, zero, suc, ◌≤◌, ◌<◌, ◌+◌, ◌*◌, ◌-◌}
+use Prim.Native.Nat.{ℕ, zero, suc, ◌≤◌, ◌<◌, ◌+◌, ◌*◌}
 use native.Mathlib.Omega.{arith}
 use lib.ListN.{length, length-append}
 use lib.Dec.{eqb, ltb, leb}
 use borrow.Author.Tests.{lt-ltb, ltb-false, leb-false, eqb-false}
-use Rattle.json_characters.specs.declared.Hex4.{Hex4}
-use Rattle.json_characters.specs.declared.Hex4.TheVariants as H
 use Rattle.json_blocks.specs.TextBytes.{byte, within}
 use Rattle.json_characters.specs.String.{hex_value, hex4_at}
 use Rattle.json_blocks.proofs.ByteLaws.{inside, cond_elim, within_is}
 use Rattle.json_characters.proofs.StringLaws.{hex_inside}
-use Rattle.json_strings.specs.declared.Unit.{Unit}
-use Rattle.json_strings.specs.declared.Unit.TheVariants.{Byte, Escape}
 use Rattle.json_strings.specs.Decode.{short_code, unit_hex4, pair_code, low_unit, unicode_unit, escape_unit, unit_at, unit_bytes, unit_end, ends_string}
 use Rattle.json_strings.specs.Utf8.{utf8}
 use Rattle.json_strings.specs.Decode.{decoded_units, decoded_from}
@@ -50,15 +48,15 @@ short_some zero f = absurd (f refl)
 short_some (suc b) f = omega arith
 
 -- ---- an escape's code point is one of Unicode's; it has at most as many bytes as the escape, which ends inside the text
-data Within (s : List ℕ) (at : ℕ) : Unit → Type 0 where
-  within_byte : Within s at Byte
-  within_escape : {p j : ℕ} → p ≤ 0x10FFFF → length (utf8 p) + at ≤ j → j ≤ length s → Within s at (Escape p j)
+data Within (s : List ℕ) (at : ℕ) : Option (ℕ × ℕ) → Type 0 where
+  within_byte : Within s at None
+  within_escape : {p j : ℕ} → p ≤ 0x10FFFF → length (utf8 p) + at ≤ j → j ≤ length s → Within s at (Some (p, j))
 
 digits_limit : (a b c d : ℕ) → a ≤ 15 → b ≤ 15 → c ≤ 15 → d ≤ 15 → ((a * 16 + b) * 16 + c) * 16 + d ≤ 0xFFFF
 digits_limit a b c d h g f e = omega arith
 
 module _ (s : List ℕ) where
-  hex4_elim : (P : Hex4 → Type 0) (i : ℕ) → P H.Bad → ((n : ℕ) → n ≤ 0xFFFF → i + 4 ≤ length s → P (H.Code n (record { at = i + 4 }))) → P (hex4_at s i)
+  hex4_elim : (P : Option (ℕ × Cursor) → Type 0) (i : ℕ) → P None → ((n : ℕ) → n ≤ 0xFFFF → i + 4 ≤ length s → P (Some (n, (record { at = i + 4 })))) → P (hex4_at s i)
   unfolding hex4_at
   hex4_elim P i b f =
       cond_elim P (ltb 15 (hex_value (byte s i))) _ _ (λ _. b)
@@ -67,8 +65,8 @@ module _ (s : List ℕ) where
       (λ m. cond_elim P (ltb 15 (hex_value (byte s (i + 3)))) _ _ (λ _. b)
       (λ e. f _ (digits_limit _ _ _ _ (ltb-false 15 _ k) (ltb-false 15 _ l) (ltb-false 15 _ m) (ltb-false 15 _ e)) (omega (arith, hex_inside s (i + 3) _ _ refl refl (ltb-false _ _ e)))))))
 
-  hex4_within : (i at : ℕ) (f : ℕ → ℕ → Unit) → ((n : ℕ) → n ≤ 0xFFFF → i + 4 ≤ length s → Within s at (f n (i + 4))) → Within s at (unit_hex4 (hex4_at s i) f)
-  hex4_within i at f g = hex4_elim (λ (x : Hex4). Within s at (unit_hex4 x f)) i within_byte g
+  hex4_within : (i at : ℕ) (f : ℕ → ℕ → Option (ℕ × ℕ)) → ((n : ℕ) → n ≤ 0xFFFF → i + 4 ≤ length s → Within s at (f n (i + 4))) → Within s at (unit_hex4 (hex4_at s i) f)
+  hex4_within i at f g = hex4_elim (λ (x : Option (ℕ × Cursor)). Within s at (unit_hex4 x f)) i within_byte g
 
   pair_limit : (n m : ℕ) → n ≤ 0xDBFF → m ≤ 0xDFFF → pair_code n m ≤ 0x10FFFF
   unfolding pair_code
@@ -103,9 +101,9 @@ module _ (s : List ℕ) where
       within_escape (omega (arith, short_low b)) (omega (arith, utf8_two (short_code b) (omega (arith, short_low b)))) (omega arith)))
       (λ _. within_byte)
 
-  pub unit_point : (at p j : ℕ) → unit_at s at ≡ Escape p j → p ≤ 0x10FFFF
+  pub unit_point : (at p j : ℕ) → unit_at s at ≡ Some (p, j) → p ≤ 0x10FFFF
   unit_point at p j e = go (subst (Within s at) e (unit_within at)) where
-    go : Within s at (Escape p j) → p ≤ 0x10FFFF
+    go : Within s at (Some (p, j)) → p ≤ 0x10FFFF
     go (within_escape h k l) = h
 
   -- ---- all units
@@ -122,7 +120,7 @@ module _ (s : List ℕ) where
       cond_elim (λ (l : List ℕ). length l + at ≤ length s) (ends_string s at) _ _ (λ _. omega arith)
       (λ e. unit (unit_within at) (ends_inside at e) (λ k. units_within n k))
     where
-      unit : {u : Unit} → Within s at u → at < length s → ((k : ℕ) → k ≤ length s → length (decoded_units n s k) + k ≤ length s)
+      unit : {u : (Option (ℕ × ℕ))} → Within s at u → at < length s → ((k : ℕ) → k ≤ length s → length (decoded_units n s k) + k ≤ length s)
           → length (unit_bytes s at u ++ decoded_units n s (unit_end at u)) + at ≤ length s
       unit within_byte l f = omega (arith, f (at + 1) (omega arith), length-append (byte s at ∷ []) (decoded_units n s (at + 1)))
       unit (within_escape {p} {j} g k m) l f = omega (arith, f j m, k, length-append (utf8 p) (decoded_units n s j))

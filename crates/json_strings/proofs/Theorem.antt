@@ -1,4 +1,6 @@
 -- A string's body by itself is the grammar's characters, and its decoded text is what they mean, in valid UTF-8.
+use Rattle.json_blocks.specs.declared.Cursor.{Cursor}
+use Rattle.std.specs.Prelude.{None, Option, Some}
 use mathlib.Core.Path.{◌≡◌, refl, sym, ap, subst, ◌∙◌}
 use mathlib.Core.Bool.{Bool, true, false}
 use mathlib.Core.Logic.{◌↔◌}
@@ -12,8 +14,6 @@ use borrow.Author.Tests.{eq-eqb, ne_eqb, lt-ltb, ltb-true, ltb-false, leb-true, 
 use Rattle.json_blocks.specs.Turns.{Turn, after_turn, run_turns, run_text}
 use Rattle.json_blocks.specs.TextBytes.{byte, to}
 use Rattle.json_characters.specs.String.{character_at}
-use Rattle.json_blocks.specs.declared.Read.{Read}
-use Rattle.json_blocks.specs.declared.Read.TheVariants as R
 use Rattle.json_blocks.proofs.ByteLaws.{inside, cond_elim, within_below, within_above}
 use Rattle.json_characters.proofs.StringLaws.{character_inside}
 use Rattle.json_grammar.specs.Grammar as G
@@ -24,8 +24,6 @@ use Rattle.json_grammar.proofs.Derived.{Derived, derived, stands_nil, stands_nex
 use Rattle.json_grammar.proofs.Skips.{is_between}
 use Rattle.json_grammar.proofs.Strings.{character_sound, character_complete, CodeAt, unit_complete, unit_limit}
 use Rattle.json_grammar.proofs.SkipLaws.{All, Ordinary, multibyte_ordinary}
-use Rattle.json_strings.specs.declared.Unit.{Unit}
-use Rattle.json_strings.specs.declared.Unit.TheVariants.{Byte, Escape}
 use Rattle.json_strings.specs.declared.Step.{Step}
 use Rattle.json_strings.specs.Decode.{short_code, pair_code, unicode_unit, escape_unit, unit_at, unit_bytes, unit_end, ends_string, decoded_from, body_onward, body_turn, is_body}
 use Rattle.json_strings.specs.Utf8.{utf8}
@@ -45,7 +43,7 @@ whole_on : {s : List ℕ} {i j : ℕ} → Derived Character s i j → Whole s j 
 whole_on {s} (derived p q) (whole (derived r t) l) = whole (derived (characters p r) (stands_join s q t)) l
 
 -- a turn that goes on passes a character
-whole_turn : {s : List ℕ} {i : ℕ} {f : ℕ → Bool} {r : Read} → ((j : ℕ) → f j ≡ true → Whole s j) → Got (Derived Character s i) r
+whole_turn : {s : List ℕ} {i : ℕ} {f : ℕ → Bool} {r : (Option Cursor)} → ((j : ℕ) → f j ≡ true → Whole s j) → Got (Derived Character s i) r
     → after_turn (body_onward r) f ≡ true → Whole s i
 whole_turn f (got {c} p) e = whole_on p (f c.at e)
 whole_turn f not_got e = let z : ◌≡◌ {A = ℕ} 0 1 = cc in absurd (omega arith)
@@ -137,7 +135,7 @@ letter_code return = (refl, omega arith)
 letter_code tabulation = (refl, omega arith)
 
 module _ {s : List ℕ} {i : ℕ} where
-  short_unit : {b p j : ℕ} → Letter b p → Stands s i (0x5C ∷ (b ∷ [])) j → unit_at s i ≡ Escape p j
+  short_unit : {b p j : ℕ} → Letter b p → Stands s i (0x5C ∷ (b ∷ [])) j → unit_at s i ≡ Some (p, j)
   unfolding unit_at escape_unit
   short_unit {p} l q =
       let c = letter_code l in
@@ -145,18 +143,18 @@ module _ {s : List ℕ} {i : ℕ} where
       rw (stands_head s q, stands_head s r, c.0, ne_eqb p 256 (omega (arith, c.1)), stands_next r)
 
   -- the escape of a code unit is what follows `\u`
-  code_unit : {n k : ℕ} {w : Unit} → CodeAt s i n k → w ≡ unicode_unit s (i + 2) → unit_at s i ≡ w
+  code_unit : {n k : ℕ} {w : (Option (ℕ × ℕ))} → CodeAt s i n k → w ≡ unicode_unit s (i + 2) → unit_at s i ≡ w
   unfolding unit_at escape_unit short_code
   code_unit c e = rw (c.slash, c.letter, e) (ap (unicode_unit s) (omega arith))
 
-  single_unit : {n k : ℕ} → CodeAt s i n k → Scalar n → unit_at s i ≡ Escape n k
+  single_unit : {n k : ℕ} → CodeAt s i n k → Scalar n → unit_at s i ≡ Some (n, k)
   single_unit {n} {k} c (below h) =
       code_unit c (unicode_4 s (i + 2) _ refl n (record { at = k }) c.code (sym (within_below _ _ n (omega arith))) (sym (within_below _ _ n (omega arith))))
   single_unit {n} {k} c (above h) =
       code_unit c (unicode_4 s (i + 2) _ refl n (record { at = k }) c.code (within_above _ _ n (omega arith)) (within_above _ _ n (omega arith)))
 
   pair_unit : {n m k j : ℕ} → CodeAt s i n k → Between 0xD800 0xDBFF n → CodeAt s k m j → Between 0xDC00 0xDFFF m
-      → unit_at s i ≡ Escape (0x10000 + (n - 0xD800) * 0x400 + (m - 0xDC00)) j
+      → unit_at s i ≡ Some ((0x10000 + (n - 0xD800) * 0x400 + (m - 0xDC00)), j)
   unfolding pair_code
   pair_unit {n} {m} {k} {j} c h d g =
       code_unit c
@@ -168,11 +166,11 @@ ordinary_from : {s : List ℕ} (xs : List ℕ) {i j : ℕ} → All Ordinary xs �
 ordinary_from {s} [] h q = ap (decoded_from s) (stands_nil q)
 ordinary_from {s} (b ∷ xs) {i} h q =
     let e = stands_head s q in
-    from_unit s i Byte (ends_not s i (stands_inside s q) (rw e h.0.0)) (unit_plain s i (rw e h.0.1))
+    from_unit s i None (ends_not s i (stands_inside s q) (rw e h.0.0)) (unit_plain s i (rw e h.0.1))
     ∙ rw (e, ordinary_from xs h.1 (stands_tail s q))
 
-escape_from : (s : List ℕ) (i : ℕ) {j p : ℕ} → byte s i ≡ 0x5C → unit_at s i ≡ Escape p j → decoded_from s i ≡ utf8 p ++ decoded_from s j
-escape_from s i {j} {p} e u = from_unit s i (Escape p j) (ends_not s i (inside s i 0x5C (sym e) (omega arith)) (λ z. omega arith)) u
+escape_from : (s : List ℕ) (i : ℕ) {j p : ℕ} → byte s i ≡ 0x5C → unit_at s i ≡ Some (p, j) → decoded_from s i ≡ utf8 p ++ decoded_from s j
+escape_from s i {j} {p} e u = from_unit s i (Some (p, j)) (ends_not s i (inside s i 0x5C (sym e) (omega arith)) (λ z. omega arith)) u
 
 meaning_from : {s c t : List ℕ} {i j : ℕ} → Meaning c t → Stands s i c j → decoded_from s i ≡ t ++ decoded_from s j
 meaning_from (plain {b} h f g) q = ordinary_from (b ∷ []) ((f, g), tt) q
@@ -268,9 +266,9 @@ utf8_short p =
     P : List ℕ → Type 0
     P l = length l ≤ 4
 
-unit_short : (s : List ℕ) (at : ℕ) (u : Unit) → length (unit_bytes s at u) ≤ 4
-unit_short s at Byte = omega arith
-unit_short s at (Escape p j) = utf8_short p
+unit_short : (s : List ℕ) (at : ℕ) (u : Option (ℕ × ℕ)) → length (unit_bytes s at u) ≤ 4
+unit_short s at None = omega arith
+unit_short s at (Some (p, j)) = utf8_short p
 
 multibyte_short : {c : List ℕ} → Multibyte c → length c ≤ 4
 multibyte_short (row2 h g) = omega arith
@@ -302,7 +300,7 @@ raw_step_lem {s} (b ∷ xs) {i} {j} p q h =
     sym (step_raw_lem s i (stands_inside s q) (rw (stands_head s q) h.0.1) f.inner (to j) (sym f.reads) (to j) refl)
     ∙ ap (λ (x : List ℕ). step_of x j) (stands_part q)
 
-escape_step : (s : List ℕ) (i : ℕ) {j p : ℕ} → byte s i ≡ 0x5C → unit_at s i ≡ Escape p j → step_at s i ≡ step_of (utf8 p) j
+escape_step : (s : List ℕ) (i : ℕ) {j p : ℕ} → byte s i ≡ 0x5C → unit_at s i ≡ Some (p, j) → step_at s i ≡ step_of (utf8 p) j
 unfolding step_at
 escape_step s i {j} {p} e u = rw (ends_not s i (inside s i 0x5C (sym e) (omega arith)) (λ z. omega arith), eq-eqb _ _ e, u)
 
@@ -360,9 +358,9 @@ module _ (s : List ℕ) (at : ℕ) where
 
     raw_said : (byte s at ≡ 0x5C → ⊥) → stepped s (step_at s at) ≡ decoded_from s at
     raw_said h = go refl (character_sound s at q) where
-      go : {r : Read} → character_at s at ≡ r → Got (Derived Character s at) r → stepped s (step_at s at) ≡ decoded_from s at
+      go : {r : (Option Cursor)} → character_at s at ≡ r → Got (Derived Character s at) r → stepped s (step_at s at) ≡ decoded_from s at
       go e (got {c} (derived p d)) = let m = character_means p in said m.0 c.at (meaning_step m.1 d) (encoded_short (meaning_encoded m.1)) (meaning_from m.1 d)
-      go e not_got = said (byte s at ∷ []) (at + 1) (sym (step_raw_lem s at l h q R.Bad (sym e) R.Bad refl)) (omega arith) (from_unit s at Byte (ends_not s at l q) (unit_plain s at h))
+      go e not_got = said (byte s at ∷ []) (at + 1) (sym (step_raw_lem s at l h q None (sym e) None refl)) (omega arith) (from_unit s at None (ends_not s at l q) (unit_plain s at h))
 
   -- whatever the bytes are, a step yields the beginning of the decoded text, which goes on past it
   pub step_decoded : stepped s (step_at s at) ≡ decoded_from s at

@@ -1,9 +1,8 @@
 -- The decoded text a character at a time.
-use Rattle.std.specs.Prelude.{cond, List, [], ◌∷◌, ◌++◌, ℕ, ◌+◌, ◌-◌, length, get_or, take, eqb}
+use Rattle.json_blocks.specs.declared.Cursor.{Cursor}
+use Rattle.std.specs.Prelude.{cond, List, [], ◌∷◌, ◌++◌, ℕ, ◌+◌, ◌-◌, length, get_or, take, eqb, None, Option, Some}
 use Rattle.json_blocks.specs.TextBytes.{byte, slice}
 use Rattle.json_characters.specs.String.{character_at}
-use Rattle.json_blocks.specs.declared.Read.{Read}
-use Rattle.json_blocks.specs.declared.Read.TheVariants as R
 use Rattle.json_strings.specs.declared.Step.{Step}
 use Rattle.json_strings.specs.Decode.{unit_at, unit_bytes, unit_end, ends_string, decoded_from}
 
@@ -15,9 +14,9 @@ abbrev pub step_of : List ℕ → ℕ → Step
 step_of l j = record { bytes = four l; len = length l; at = j }
 
 -- raw bytes that are read as one character are one step; a byte that begins none is one by itself
-abbrev pub raw_step : List ℕ → ℕ → Read → Step
-raw_step s at (R.To c) = step_of (slice s at (c.at - at)) c.at
-raw_step s at R.Bad = step_of (byte s at ∷ []) (at + 1)
+abbrev pub raw_step : List ℕ → ℕ → Option Cursor → Step
+raw_step s at (Some c) = step_of (slice s at (c.at - at)) c.at
+raw_step s at None = step_of (byte s at ∷ []) (at + 1)
 
 -- The next character from a place on: its decoded bytes, and the place past it; no bytes where the string ends. An escape, or a
 -- pair of them, is one step.

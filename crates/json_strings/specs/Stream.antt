@@ -1,9 +1,7 @@
 -- The decoded text from a position on: a unit's place, and how many of the bytes that it stands for are passed. Nothing is left where
 -- the unit has no more bytes.
-use Rattle.std.specs.Prelude.{cond, List, [], ◌++◌, ℕ, ◌+◌, length, get_or, drop, ltb}
+use Rattle.std.specs.Prelude.{cond, List, [], ◌++◌, ℕ, ◌+◌, length, get_or, drop, ltb, None, Option, Some}
 use Rattle.json_strings.specs.declared.Position.{Position}
-use Rattle.json_strings.specs.declared.Stream.{Stream}
-use Rattle.json_strings.specs.declared.Stream.TheVariants.{Next, End}
 use Rattle.json_strings.specs.Decode.{unit_at, unit_bytes, unit_end, ends_string, decoded_from}
 
 -- the first byte of the unit at a place
@@ -29,5 +27,5 @@ unfoldable pub next_position : List ℕ → Position → Position
 next_position s p = cond (ltb (p.passed + 1) (length (bytes_at s p.at))) (byte_more p) (start_at (unit_end p.at (unit_at s p.at)))
 
 -- the byte at a position, and the position past it; the end where the unit has no more bytes
-unfoldable pub next_byte : List ℕ → Position → Stream
-next_byte s p = cond (ltb p.passed (length (bytes_at s p.at))) (Next (get_or (bytes_at s p.at) p.passed 0) (next_position s p)) End
+unfoldable pub next_byte : List ℕ → Position → Option (ℕ × Position)
+next_byte s p = cond (ltb p.passed (length (bytes_at s p.at))) (Some ((get_or (bytes_at s p.at) p.passed 0), (next_position s p))) None

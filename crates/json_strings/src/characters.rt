@@ -3,17 +3,17 @@ ghost use Rattle.json_blocks.specs.TextBytes.{byte};
 ghost use Rattle.json_strings.specs.Characters.{step_of, step_at};
 ghost use Rattle.json_strings.specs.Utf8.{utf8};
 
-use crate::{Step, Unit, escape_unit, utf8_byte, utf8_len};
-use json_blocks::{Cursor, Read, peek};
+use crate::{Step, escape_unit, utf8_byte, utf8_len};
+use json_blocks::{Cursor, peek};
 use json_characters::character;
 
 pub(crate) fn no_step(at: usize) -> Step
     ensures { result ≡ step_of [] at }
 {
     Step {
-        bytes: [0, 0, 0, 0],
+        bytes: [0; 4],
         len: 0,
-        at: at,
+        at,
     }
 }
 
@@ -24,7 +24,7 @@ pub(crate) fn byte_step(b: u8, at: usize) -> Step
     Step {
         bytes: [b, 0, 0, 0],
         len: 1,
-        at: at,
+        at,
     }
 }
 
@@ -34,10 +34,7 @@ pub(crate) fn utf8_or_zero(p: usize, n: usize, k: usize) -> u8
     requires n_value { n ≡ length (utf8 p) }
     ensures { result ≡ get_or (utf8 p) k 0 }
 {
-    if k < n {
-        return utf8_byte(p, n, k);
-    }
-    0
+    if k < n { utf8_byte(p, n, k) } else { 0 }
 }
 
 // A code point, whose escape ends before at.
@@ -45,15 +42,16 @@ pub(crate) fn code_step(p: usize, at: usize) -> Step
     requires { p ≤ 0x10FFFF }
     ensures { result ≡ step_of (utf8 p) at }
 {
-    let n = utf8_len(p);
-    let a = utf8_or_zero(p, n, 0);
-    let b = utf8_or_zero(p, n, 1);
-    let c = utf8_or_zero(p, n, 2);
-    let d = utf8_or_zero(p, n, 3);
+    let len = utf8_len(p);
     Step {
-        bytes: [a, b, c, d],
-        len: n,
-        at: at,
+        bytes: [
+            utf8_or_zero(p, len, 0),
+            utf8_or_zero(p, len, 1),
+            utf8_or_zero(p, len, 2),
+            utf8_or_zero(p, len, 3),
+        ],
+        len,
+        at,
     }
 }
 
@@ -63,10 +61,7 @@ pub(crate) fn raw_or_zero(s: &[u8], at: usize, n: usize, k: usize) -> u8
     requires k_bound { k < 4 }
     ensures { result ≡ get_or (take n (drop at s.now)) k 0 }
 {
-    if n <= k {
-        return 0;
-    }
-    peek(s, at + k)
+    if k < n { peek(s, at + k) } else { 0 }
 }
 
 // The raw bytes from a place up to an end.
@@ -75,14 +70,15 @@ pub(crate) fn raw_step(s: &[u8], at: usize, end: usize) -> Step
     requires end_in_bounds { end ≤ length s.now }
     ensures { result ≡ step_of (take (end - at) (drop at s.now)) end }
 {
-    let n = end - at;
-    let a = raw_or_zero(s, at, n, 0);
-    let b = raw_or_zero(s, at, n, 1);
-    let c = raw_or_zero(s, at, n, 2);
-    let d = raw_or_zero(s, at, n, 3);
+    let len = end - at;
     Step {
-        bytes: [a, b, c, d],
-        len: n,
+        bytes: [
+            raw_or_zero(s, at, len, 0),
+            raw_or_zero(s, at, len, 1),
+            raw_or_zero(s, at, len, 2),
+            raw_or_zero(s, at, len, 3),
+        ],
+        len,
         at: end,
     }
 }
@@ -93,31 +89,25 @@ pub(crate) fn escaped_step(s: &[u8], at: usize) -> Step
     requires at_in_bounds { at < length s.now }
     ensures { result ≡ step_at s.now at }
 {
-    let u = escape_unit(s, at + 1);
-    let Unit::Escape(p, j) = u else {
-        return byte_step(b'\\', at + 1);
-    };
-    code_step(p, j)
+    match escape_unit(s, at + 1) {
+        Some((p, end)) => code_step(p, end),
+        None => byte_step(b'\\', at + 1),
+    }
 }
 
 // The next character of a string from a place on.
 pub fn next_character(s: &[u8], at: usize) -> Step
     ensures { result ≡ step_at s.now at }
 {
-    if at < s.len() {
-        let b = s[at];
-        if b == b'\\' {
-            return escaped_step(s, at);
-        }
-        if b == b'"' {
-            return no_step(at);
-        }
-        let r = character(Cursor { at: at }, s);
-        let Read::To(c) = r else {
-            return byte_step(b, at + 1);
-        };
-        let end = c.at;
-        return raw_step(s, at, end);
+    if s.len() <= at {
+        return no_step(at);
     }
-    no_step(at)
+    match s[at] {
+        b'\\' => escaped_step(s, at),
+        b'"' => no_step(at),
+        b => match character(Cursor { at }, s) {
+            Some(end) => raw_step(s, at, end.at),
+            None => byte_step(b, at + 1),
+        },
+    }
 }

@@ -1,106 +1,95 @@
 ghost use Rattle.std.specs.Prelude.{◌≡◌};
-ghost use Rattle.json_tokens.specs.Number.{skip_digits, digits_at, integer_at, fraction_at, skip_sign, exponent_at, skip_minus, number_at};
+ghost use Rattle.json_tokens.specs.Number.{digit, skip_digits, digits_at, integer_at, fraction_at, skip_sign, exponent_at, skip_minus, number_at};
 
-use json_blocks::{Cursor, Read, is_within, peek};
+use json_blocks::blocks::{ByteTest, skip_while};
+use json_blocks::{Cursor, peek};
 
+pub struct Digit;
+
+impl ByteTest for Digit {
+    ghost holds = { digit };
+
+    #[tactic(auto, unfolding(json_blocks::specs::TextBytes::within))]
+    fn test(b: u8) -> bool {
+        b.is_ascii_digit()
+    }
+}
+
+#[tactic(auto, using(crate::proofs::NumberLaws::no_digit))]
 pub(crate) fn skip_digits(start: Cursor, s: &[u8]) -> Cursor
     ensures { result.at ≡ skip_digits s.now start.at }
 {
-    let mut i = start.at;
-    while is_within(b'0', b'9', peek(s, i)) {
-        i += 1;
-    }
-    Cursor { at: i }
+    let at = skip_while::<Digit>(s, start.at);
+    Cursor { at }
 }
 
 // One digit or more.
-pub(crate) fn digits(start: Cursor, s: &[u8]) -> Read
+#[tactic(auto, unfolding(crate::specs::Number::digits_at, json_blocks::specs::TextBytes::within))]
+pub(crate) fn digits(start: Cursor, s: &[u8]) -> Option<Cursor>
     ensures { result ≡ digits_at s.now start.at }
 {
-    let at = start.at;
-    let b = peek(s, at);
-    if is_within(b'0', b'9', b) {
-        let d = skip_digits(Cursor { at: at + 1 }, s);
-        return Read::To(d);
+    if Digit::test(peek(s, start.at)) {
+        return Some(skip_digits(Cursor { at: start.at + 1 }, s));
     }
-    Read::Bad
+    None
 }
 
 // A zero, or digits that begin with another.
-pub(crate) fn integer(start: Cursor, s: &[u8]) -> Read
+#[tactic(auto, unfolding(crate::specs::Number::integer_at))]
+pub(crate) fn integer(start: Cursor, s: &[u8]) -> Option<Cursor>
     ensures { result ≡ integer_at s.now start.at }
 {
-    let at = start.at;
-    let b = peek(s, at);
-    if b == b'0' {
-        return Read::To(Cursor { at: at + 1 });
+    if peek(s, start.at) == b'0' {
+        return Some(Cursor { at: start.at + 1 });
     }
     digits(start, s)
 }
 
-pub(crate) fn fraction(start: Cursor, s: &[u8]) -> Read
+#[tactic(auto, unfolding(crate::specs::Number::fraction_at))]
+pub(crate) fn fraction(start: Cursor, s: &[u8]) -> Option<Cursor>
     ensures { result ≡ fraction_at s.now start.at }
 {
-    let at = start.at;
-    let b = peek(s, at);
-    if b == b'.' {
-        return digits(Cursor { at: at + 1 }, s);
+    if peek(s, start.at) == b'.' {
+        return digits(Cursor { at: start.at + 1 }, s);
     }
-    Read::To(start)
+    Some(start)
 }
 
+#[tactic(auto, unfolding(crate::specs::Number::skip_sign))]
 pub(crate) fn skip_sign(start: Cursor, s: &[u8]) -> Cursor
     ensures { result.at ≡ skip_sign s.now start.at }
 {
-    let at = start.at;
-    let b = peek(s, at);
-    if b == b'+' {
-        return Cursor { at: at + 1 };
+    match peek(s, start.at) {
+        b'+' | b'-' => Cursor { at: start.at + 1 },
+        _ => start,
     }
-    if b == b'-' {
-        return Cursor { at: at + 1 };
-    }
-    start
 }
 
+#[tactic(auto, unfolding(crate::specs::Number::skip_minus))]
 pub(crate) fn skip_minus(start: Cursor, s: &[u8]) -> Cursor
     ensures { result.at ≡ skip_minus s.now start.at }
 {
-    let at = start.at;
-    let b = peek(s, at);
-    if b == b'-' {
-        return Cursor { at: at + 1 };
+    match peek(s, start.at) {
+        b'-' => Cursor { at: start.at + 1 },
+        _ => start,
     }
-    start
 }
 
-pub(crate) fn exponent(start: Cursor, s: &[u8]) -> Read
+#[tactic(auto, unfolding(crate::specs::Number::exponent_at))]
+pub(crate) fn exponent(start: Cursor, s: &[u8]) -> Option<Cursor>
     ensures { result ≡ exponent_at s.now start.at }
 {
-    let at = start.at;
-    let b = peek(s, at);
-    if b == b'e' {
-        let c = skip_sign(Cursor { at: at + 1 }, s);
-        return digits(c, s);
+    match peek(s, start.at) {
+        b'e' | b'E' => digits(skip_sign(Cursor { at: start.at + 1 }, s), s),
+        _ => Some(start),
     }
-    if b == b'E' {
-        let c = skip_sign(Cursor { at: at + 1 }, s);
-        return digits(c, s);
-    }
-    Read::To(start)
 }
 
-pub fn number(start: Cursor, s: &[u8]) -> Read
+#[tactic(auto, unfolding(crate::specs::Number::number_at))]
+pub fn number(start: Cursor, s: &[u8]) -> Option<Cursor>
     ensures { result ≡ number_at s.now start.at }
 {
-    let m = skip_minus(start, s);
-    let r = integer(m, s);
-    let Read::To(c) = r else {
-        return Read::Bad;
-    };
-    let q = fraction(c, s);
-    let Read::To(d) = q else {
-        return Read::Bad;
-    };
+    let c = integer(skip_minus(start, s), s)?;
+    let d = fraction(c, s)?;
     exponent(d, s)
 }

@@ -1,9 +1,8 @@
--- For the code: the last arms of its matches, and the steps of the loop over a chunk.
-use mathlib.Core.Path.{◌≡◌, refl, sym, ◌∙◌}
+-- For the code: the last arm of its match over tokens, and the steps of the loop over a chunk.
+use mathlib.Core.Path.{◌≡◌, sym, ◌∙◌}
 use mathlib.Core.Bool.{Bool, true, false}
 use mathlib.Core.List.{List}
 use Prim.Native.Nat.{ℕ, ◌≤◌, ◌<◌, ◌+◌}
-use native.Mathlib.Omega.{arith}
 use lib.ListN.{length, get_or, drop, get_or-eq_default}
 use Rattle.json_blocks.specs.TextBytes.{blank, skip_while, skip_blanks}
 use Rattle.json_blocks.specs.Blocks.{plain_byte}
@@ -11,17 +10,13 @@ use Rattle.json_blocks.proofs.ByteLaws.{no_blank, skip_onward}
 use Rattle.json_blocks.proofs.BlockLaws.{no_plain}
 use Rattle.json_automaton.specs.Token.{bad, token_moves, token_move}
 use Rattle.json_automaton.specs.declared.Control.{Control}
-use Rattle.json_automaton.specs.Control.{lost, place_moves, move, run_moves}
+use Rattle.json_automaton.specs.Control.{lost, move, run_moves}
 use Rattle.json_automaton.proofs.Accept.{run_lost, run_inside, run_skip, blank_stays, plain_stays}
 use Rattle.json_transitions.specs.Kept.{Kept}
 
 pub token_none : (t b : ℕ) → 38 ≤ t → bad ≡ token_move t b
 unfolding token_move token_moves
 token_none t b h = sym (get_or-eq_default (token_moves b) bad h)
-
-pub place_none : (p o b : ℕ) → 6 ≤ p → lost ≡ get_or (place_moves o b) p lost
-unfolding place_moves
-place_none p o b h = sym (get_or-eq_default (place_moves o b) lost h)
 
 -- ---- bytes that leave the control as it is
 module _ (c : Control) (s : List ℕ) (at : ℕ) where
@@ -39,9 +34,6 @@ module _ (c : Control) (s : List ℕ) (at : ℕ) where
     where
       alike : (l : List ℕ) → run_moves c l ≡ lost
       alike l = rw (p, t, o) (run_lost l)
-
-  pub kept_here : Kept c s at at
-  kept_here = record { onward = omega arith; same = refl }
 
 -- ---- the loop over a chunk
 module _ (c d : Control) (s : List ℕ) (i r : ℕ) where

@@ -18,9 +18,9 @@ fn at(place: u64, token: u64, stack: u64) -> Control
     ensures { result ≡ control place token stack }
 {
     Control {
-        place: place,
-        token: token,
-        stack: stack,
+        place,
+        token,
+        stack,
     }
 }
 
@@ -32,22 +32,11 @@ fn lost() -> Control
 }
 
 // Nothing is wanted: no token, or a number that may end here.
+#[tactic(auto, unfolding(json_automaton::specs::Token::whole))]
 pub fn is_whole(t: u64) -> bool
     ensures { result ≡ whole t }
 {
-    if t == 0 {
-        return true;
-    }
-    if t == 22 {
-        return true;
-    }
-    if t == 23 {
-        return true;
-    }
-    if t == 25 {
-        return true;
-    }
-    t == 28
+    matches!(t, 0 | 22 | 23 | 25 | 28)
 }
 
 // The innermost open bracket is an object's.
@@ -61,21 +50,20 @@ pub fn is_object_top(stack: u64) -> bool
 fn close_of(stack: u64) -> u8
     ensures { result ≡ closing stack }
 {
-    if is_object_top(stack) {
-        return b'}';
-    }
-    b']'
+    if is_object_top(stack) { b'}' } else { b']' }
 }
 
 // Past an opening bracket: kind is 0 for an array, 1 for an object.
+#[tactic(auto, unfolding(json_automaton::specs::Control::push))]
 fn push(stack: u64, kind: u64) -> Control
     requires { kind ≤ 1 }
     ensures { result ≡ push stack kind }
 {
     if stack < Control::FULL {
-        return at(Control::FIRST, 0, stack * 2 + kind);
+        at(Control::FIRST, 0, stack * 2 + kind)
+    } else {
+        lost()
     }
-    lost()
 }
 
 // Past a closing bracket.
@@ -86,13 +74,11 @@ fn pop(stack: u64) -> Control
 }
 
 // A number begins.
+#[tactic(auto, unfolding(json_automaton::specs::Control::number_move))]
 fn number_move(stack: u64, b: u8) -> Control
     ensures { result ≡ number_move stack b }
 {
-    if b == b'-' {
-        return at(Control::AFTER, MINUS, stack);
-    }
-    let n = minus_move(b);
+    let n = if b == b'-' { MINUS } else { minus_move(b) };
     if n == BAD {
         return lost();
     }
@@ -100,80 +86,77 @@ fn number_move(stack: u64, b: u8) -> Control
 }
 
 // A value begins.
+#[tactic(auto, unfolding(json_automaton::specs::Control::value_move))]
 fn value_move(stack: u64, b: u8) -> Control
     ensures { result ≡ value_move stack b }
 {
-    if b == b'"' {
-        return at(Control::AFTER, STRING, stack);
+    match b {
+        b'"' => at(Control::AFTER, STRING, stack),
+        b'[' => push(stack, 0),
+        b'{' => push(stack, 1),
+        b't' => at(Control::AFTER, TRUE, stack),
+        b'f' => at(Control::AFTER, FALSE, stack),
+        b'n' => at(Control::AFTER, NULL, stack),
+        _ => number_move(stack, b),
     }
-    if b == b'[' {
-        return push(stack, 0);
-    }
-    if b == b'{' {
-        return push(stack, 1);
-    }
-    if b == b't' {
-        return at(Control::AFTER, TRUE, stack);
-    }
-    if b == b'f' {
-        return at(Control::AFTER, FALSE, stack);
-    }
-    if b == b'n' {
-        return at(Control::AFTER, NULL, stack);
-    }
-    number_move(stack, b)
 }
 
 // An element begins, or a member's name.
+#[tactic(auto, unfolding(json_automaton::specs::Control::item_move))]
 fn item_move(stack: u64, b: u8) -> Control
     ensures { result ≡ item_move stack b }
 {
-    if is_object_top(stack) {
-        if b == b'"' {
-            return at(Control::COLON, STRING, stack);
-        }
-        return lost();
+    if !is_object_top(stack) {
+        value_move(stack, b)
+    } else if b == b'"' {
+        at(Control::COLON, STRING, stack)
+    } else {
+        lost()
     }
-    value_move(stack, b)
 }
 
 // Past an opening bracket: the close, or an item.
+#[tactic(auto, unfolding(json_automaton::specs::Control::first_move))]
 fn first_move(stack: u64, b: u8) -> Control
     ensures { result ≡ first_move stack b }
 {
     if b == close_of(stack) {
-        return pop(stack);
+        pop(stack)
+    } else {
+        item_move(stack, b)
     }
-    item_move(stack, b)
 }
 
 // After a name.
+#[tactic(auto, unfolding(json_automaton::specs::Control::colon_move))]
 fn colon_move(stack: u64, b: u8) -> Control
     ensures { result ≡ colon_move stack b }
 {
     if b == b':' {
-        return at(Control::VALUE, 0, stack);
+        at(Control::VALUE, 0, stack)
+    } else {
+        lost()
     }
-    lost()
 }
 
 // After a value.
+#[tactic(auto, unfolding(json_automaton::specs::Control::after_move))]
 fn after_move(stack: u64, b: u8) -> Control
     ensures { result ≡ after_move stack b }
 {
     if stack < 2 {
-        return lost();
+        lost()
+    } else if b == b',' {
+        at(Control::NEXT, 0, stack)
+    } else if b == close_of(stack) {
+        pop(stack)
+    } else {
+        lost()
     }
-    if b == b',' {
-        return at(Control::NEXT, 0, stack);
-    }
-    if b == close_of(stack) {
-        return pop(stack);
-    }
-    lost()
 }
 
 // Between tokens: a blank, or what the place takes.
+#[tactic(auto, unfolding(json_automaton::specs::Control::place_move, json_automaton::specs::Control::place_moves))]
 fn place_move(place: u64, stack: u64, b: u8) -> Control
     ensures { result ≡ place_move place stack b }
 {
@@ -181,7 +164,6 @@ fn place_move(place: u64, stack: u64, b: u8) -> Control
         return at(place, 0, stack);
     }
     match place {
-        0 => lost(),
         1 => value_move(stack, b),
         2 => first_move(stack, b),
         3 => item_move(stack, b),
@@ -195,17 +177,14 @@ fn place_move(place: u64, stack: u64, b: u8) -> Control
 fn step(c: Control, b: u8) -> Control
     ensures { result ≡ move c b }
 {
-    let t = c.token;
-    let p = c.place;
-    let o = c.stack;
-    let n = token_move(t, b);
-    if n == BAD {
-        if is_whole(t) {
-            return place_move(p, o, b);
-        }
-        return lost();
+    let n = token_move(c.token, b);
+    if n != BAD {
+        at(c.place, n, c.stack)
+    } else if is_whole(c.token) {
+        place_move(c.place, c.stack, b)
+    } else {
+        lost()
     }
-    at(p, n, o)
 }
 
 // Past the bytes that leave a control between tokens as it is: all where the text is lost, and blanks.
@@ -214,13 +193,10 @@ fn skip_between(c: Control, s: &[u8], at: usize) -> usize
     requires at_in_bounds { at ≤ length s.now }
     ensures { Kept c s.now at result }
 {
-    if c.place == Control::LOST {
-        if c.stack == 0 {
-            return s.len();
-        }
+    if c.place == Control::LOST && c.stack == 0 {
+        return s.len();
     }
-    let r = Cursor { at: at }.skip_indent(s);
-    r.at
+    Cursor { at }.skip_indent(s).at
 }
 
 // Past bytes that leave the control as it is: plain bytes of a string, and those between tokens.
@@ -228,14 +204,13 @@ fn skip_kept(c: Control, s: &[u8], at: usize) -> usize
     requires { at ≤ length s.now }
     ensures { Kept c s.now at result }
 {
-    let t = c.token;
-    if t == STRING {
-        return skip_plain_bytes(s, at);
+    if c.token == STRING {
+        skip_plain_bytes(s, at)
+    } else if c.token == 0 {
+        skip_between(c, s, at)
+    } else {
+        at
     }
-    if t == 0 {
-        return skip_between(c, s, at);
-    }
-    at
 }
 
 // The control after the bytes of s.

@@ -20,139 +20,118 @@ pub(crate) const FALSE: u64 = 32;
 pub(crate) const NULL: u64 = 35;
 
 // A byte from lo to hi.
+#[tactic(auto, unfolding(json_automaton::specs::Token::byte_move))]
 fn byte_move(lo: u8, hi: u8, next: u64, b: u8) -> u64
     ensures { result ≡ byte_move lo hi next b }
 {
-    if is_within(lo, hi, b) {
-        return next;
-    }
-    BAD
+    if is_within(lo, hi, b) { next } else { BAD }
 }
 
 // The byte w.
+#[tactic(auto, unfolding(json_automaton::specs::Token::is_move))]
 fn is_move(w: u8, next: u64, b: u8) -> u64
     ensures { result ≡ is_move w next b }
 {
-    if b == w {
-        return next;
-    }
-    BAD
+    if b == w { next } else { BAD }
 }
 
 // A hexadecimal digit.
+#[tactic(auto, unfolding(json_automaton::specs::Token::hex_move))]
 fn hex_move(next: u64, b: u8) -> u64
     ensures { result ≡ hex_move next b }
 {
-    let h = hex_digit(b);
-    if 15 < h {
-        return BAD;
-    }
-    next
+    if hex_digit(b) < 16 { next } else { BAD }
 }
 
 // A hexadecimal digit from lo to hi: the first two of a low surrogate.
+#[tactic(auto, unfolding(json_automaton::specs::Token::low_move))]
 fn low_move(lo: usize, hi: usize, next: u64, b: u8) -> u64
     ensures { result ≡ low_move lo hi next b }
 {
-    let h = hex_digit(b);
-    if code_within(lo, hi, h) {
-        return next;
+    if code_within(lo, hi, hex_digit(b)) {
+        next
+    } else {
+        BAD
     }
-    BAD
 }
 
 // The first byte of a character above ASCII.
+#[tactic(auto, unfolding(json_automaton::specs::Token::wide_move, json_blocks::specs::TextBytes::within))]
 fn wide_move(b: u8) -> u64
     ensures { result ≡ wide_move b }
 {
-    if is_within(0xC2, 0xDF, b) {
-        return 2;
+    match b {
+        0xC2..=0xDF => 2,
+        0xE0 => 5,
+        0xE1..=0xEC | 0xEE..=0xEF => 3,
+        0xED => 6,
+        0xF0 => 7,
+        0xF1..=0xF3 => 4,
+        0xF4 => 8,
+        _ => BAD,
     }
-    if b == 0xE0 {
-        return 5;
-    }
-    if is_within(0xE1, 0xEC, b) {
-        return 3;
-    }
-    if b == 0xED {
-        return 6;
-    }
-    if is_within(0xEE, 0xEF, b) {
-        return 3;
-    }
-    if b == 0xF0 {
-        return 7;
-    }
-    if is_within(0xF1, 0xF3, b) {
-        return 4;
-    }
-    if b == 0xF4 {
-        return 8;
-    }
-    BAD
 }
 
 // In a string.
+#[tactic(auto, unfolding(json_automaton::specs::Token::text_move))]
 fn text_move(b: u8) -> u64
     ensures { result ≡ text_move b }
 {
-    if b == b'"' {
-        return 0;
+    match b {
+        b'"' => 0,
+        0..=0x1F => BAD,
+        b'\\' => 9,
+        0x20..=0x7F => 1,
+        _ => wide_move(b),
     }
-    if b < 0x20 {
-        return BAD;
-    }
-    if b == b'\\' {
-        return 9;
-    }
-    if b < 0x80 {
-        return 1;
-    }
-    wide_move(b)
 }
 
 // After a backslash.
+#[tactic(auto, unfolding(json_automaton::specs::Token::escape_move))]
 fn escape_move(b: u8) -> u64
     ensures { result ≡ escape_move b }
 {
     if is_short_escape(b) {
-        return 1;
+        1
+    } else if b == b'u' {
+        13
+    } else {
+        BAD
     }
-    if b == b'u' {
-        return 13;
-    }
-    BAD
 }
 
 // The first digit of an escape: a `d` may begin a surrogate.
+#[tactic(auto, unfolding(json_automaton::specs::Token::first_hex_move))]
 fn first_hex_move(b: u8) -> u64
     ensures { result ≡ first_hex_move b }
 {
     let h = hex_digit(b);
     if 15 < h {
-        return BAD;
+        BAD
+    } else if h == 13 {
+        14
+    } else {
+        12
     }
-    if h == 13 {
-        return 14;
-    }
-    12
 }
 
 // The digit after it: no surrogate, or a high one; a low one stands nowhere first.
+#[tactic(auto, unfolding(json_automaton::specs::Token::surrogate_move))]
 fn surrogate_move(b: u8) -> u64
     ensures { result ≡ surrogate_move b }
 {
     let h = hex_digit(b);
     if h < 8 {
-        return 11;
+        11
+    } else if h < 12 {
+        15
+    } else {
+        BAD
     }
-    if h < 12 {
-        return 15;
-    }
-    BAD
 }
 
 // The first digit of a number.
+#[tactic(auto, unfolding(json_automaton::specs::Token::minus_move))]
 pub(crate) fn minus_move(b: u8) -> u64
     ensures { result ≡ minus_move b }
 {
@@ -163,19 +142,18 @@ pub(crate) fn minus_move(b: u8) -> u64
 }
 
 // An exponent begins.
+#[tactic(auto, unfolding(json_automaton::specs::Token::exponent_move))]
 fn exponent_move(b: u8) -> u64
     ensures { result ≡ exponent_move b }
 {
-    if b == b'e' {
-        return 26;
+    match b {
+        b'e' | b'E' => 26,
+        _ => BAD,
     }
-    if b == b'E' {
-        return 26;
-    }
-    BAD
 }
 
 // A fraction begins, or an exponent.
+#[tactic(auto, unfolding(json_automaton::specs::Token::fraction_move))]
 fn fraction_move(b: u8) -> u64
     ensures { result ≡ fraction_move b }
 {
@@ -186,19 +164,18 @@ fn fraction_move(b: u8) -> u64
 }
 
 // After `e`.
+#[tactic(auto, unfolding(json_automaton::specs::Token::sign_move))]
 fn sign_move(b: u8) -> u64
     ensures { result ≡ sign_move b }
 {
-    if b == b'+' {
-        return 27;
+    match b {
+        b'+' | b'-' => 27,
+        _ => byte_move(b'0', b'9', 28, b),
     }
-    if b == b'-' {
-        return 27;
-    }
-    byte_move(b'0', b'9', 28, b)
 }
 
 // In an integer that does not begin with 0.
+#[tactic(auto, unfolding(json_automaton::specs::Token::token_move, json_automaton::specs::Token::token_moves))]
 fn integer_move(b: u8) -> u64
     ensures { result ≡ token_move 23 b }
 {
@@ -209,6 +186,7 @@ fn integer_move(b: u8) -> u64
 }
 
 // In a fraction.
+#[tactic(auto, unfolding(json_automaton::specs::Token::token_move, json_automaton::specs::Token::token_moves))]
 fn decimal_move(b: u8) -> u64
     ensures { result ≡ token_move 25 b }
 {
@@ -219,6 +197,7 @@ fn decimal_move(b: u8) -> u64
 }
 
 // One byte more of the token t: the token then, 0 where it has ended, or BAD.
+#[tactic(auto, unfolding(json_automaton::specs::Token::token_move, json_automaton::specs::Token::token_moves))]
 pub(crate) fn token_move(t: u64, b: u8) -> u64
     ensures { result ≡ token_move t b }
 {

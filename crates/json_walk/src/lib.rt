@@ -1,13 +1,12 @@
 // The members of objects and the elements of arrays of a text that is JSON, one by one.
 #![tactic(auto)]
 
-ghost use Rattle.std.specs.Prelude.{◌≡◌, ℕ, ◌<◌};
-ghost use Rattle.json_grammar.specs.Skip.{skip_string, opens, closes, skip_open, token_byte, skip_value};
-ghost use Rattle.json_blocks.specs.TextBytes.{skip_while};
+ghost use Rattle.std.specs.Prelude.{◌≡◌};
+ghost use Rattle.json_grammar.specs.Skip.{skip_string, closes, skip_open, token_byte, skip_value};
 ghost use Rattle.json_walk.specs.Members.{next_item, name_step, member_step, element_step};
 
-use json_blocks::blocks::is_ordinary_block;
-use json_blocks::{Cursor, Read, is_blank, peek};
+use json_blocks::blocks::{ByteTest, is_ordinary_block, skip_while};
+use json_blocks::{Cursor, is_blank, peek};
 
 // A member of an object: the places of its raw name between the quotes, of the closing quote, of its value, and past that.
 #[derive(Clone, Copy)]
@@ -33,214 +32,144 @@ pub struct Element {
     pub end: usize,
 }
 
-// The member at a place, and where the next one, or the close, stands.
-#[derive(Clone, Copy)]
-pub enum MemberStep {
-    Found(Member, usize),
-    End,
-}
-
-// The name of the member at a place.
-#[derive(Clone, Copy)]
-pub enum NameStep {
-    Found(MemberName),
-    End,
-}
-
-// The element at a place, and where the next one, or the close, stands.
-#[derive(Clone, Copy)]
-pub enum ElementStep {
-    Found(Element, usize),
-    End,
-}
-
 // Past blocks of bytes that are no quotes and no backslashes.
+#[tactic(auto, using(json_blocks::proofs::BlockLaws::block_room, json_blocks::proofs::BlockLaws::block_good, crate::proofs::WalkLaws::ordinary_pass))]
 fn skip_ordinary(s: &[u8], at: usize) -> usize
     ensures { skip_string s.now result ≡ skip_string s.now at }
 {
     let mut i = at;
-    loop {
-        if is_ordinary_block(s, i) {
-            i += 8;
-        } else {
-            return i;
-        }
+    while is_ordinary_block(s, i) {
+        i += 8;
     }
+    i
 }
 
 // Past a string, from past its opening quote.
+#[tactic(auto, using(json_grammar::proofs::SkipLaws::quoted_end, json_grammar::proofs::SkipLaws::quoted_close, json_grammar::proofs::SkipLaws::quoted_escape, json_grammar::proofs::SkipLaws::quoted_other))]
 pub(crate) fn skip_string(s: &[u8], at: usize) -> usize
     ensures { result ≡ skip_string s.now at }
 {
     let mut i = skip_ordinary(s, at);
     while i < s.len() {
-        let b = s[i];
-        if b == b'"' {
-            return i + 1;
+        match s[i] {
+            b'"' => return i + 1,
+            b'\\' => i += 2,
+            _ => i += 1,
         }
-        if b == b'\\' {
-            i += 2;
-            continue;
-        }
-        i += 1;
     }
     i
-}
-
-pub(crate) fn is_open(b: u8) -> bool
-    ensures { result ≡ opens b }
-{
-    if b == b'[' {
-        return true;
-    }
-    b == b'{'
 }
 
 pub(crate) fn is_close(b: u8) -> bool
     ensures { result ≡ closes b }
 {
-    if b == b']' {
-        return true;
-    }
-    b == b'}'
+    matches!(b, b']' | b'}')
 }
 
 // Past the close of an array or object, from past its opening byte.
+#[tactic(auto, using(json_grammar::proofs::SkipLaws::quoted_onward, json_grammar::proofs::SkipLaws::open_end, json_grammar::proofs::SkipLaws::open_string, json_grammar::proofs::SkipLaws::open_opens, json_grammar::proofs::SkipLaws::open_last, json_grammar::proofs::SkipLaws::open_closes, crate::proofs::WalkLaws::open_passes))]
 pub(crate) fn skip_open(s: &[u8], at: usize) -> usize
     ensures { result ≡ skip_open s.now 1 at }
 {
     let mut i = at;
     let mut n = 1usize;
     while i < s.len() {
-        let b = s[i];
-        if b == b'"' {
-            i = skip_string(s, i + 1);
-            continue;
-        }
-        if is_open(b) {
-            n += 1;
-            i += 1;
-            continue;
-        }
-        if is_close(b) {
-            if n <= 1 {
-                return i + 1;
+        match s[i] {
+            b'"' => i = skip_string(s, i + 1),
+            b'[' | b'{' => {
+                n += 1;
+                i += 1;
             }
-            n -= 1;
-            i += 1;
-            continue;
+            b']' | b'}' => {
+                if n <= 1 {
+                    return i + 1;
+                }
+                n -= 1;
+                i += 1;
+            }
+            _ => i += 1,
         }
-        i += 1;
     }
     i
 }
 
 // A byte of a number or a literal.
-pub(crate) fn is_scalar(b: u8) -> bool
-    ensures { result ≡ token_byte b }
-{
-    if b == 0 {
-        return false;
-    }
-    if is_blank(b) {
-        return false;
-    }
-    if b == b',' {
-        return false;
-    }
-    if is_close(b) {
-        return false;
-    }
-    true
-}
+struct Scalar;
 
-pub(crate) fn skip_scalar(s: &[u8], at: usize) -> usize
-    ensures { result ≡ skip_while token_byte s.now at }
-{
-    let mut i = at;
-    while is_scalar(peek(s, i)) {
-        i += 1;
+impl ByteTest for Scalar {
+    ghost holds = { token_byte };
+
+    #[tactic(auto, unfolding(json_grammar::specs::Skip::token_byte))]
+    fn test(b: u8) -> bool {
+        b != 0 && !is_blank(b) && b != b',' && !is_close(b)
     }
-    i
 }
 
 // Past the value at a place of a text that is JSON, by its brackets and quotes alone.
+#[tactic(auto, using(json_grammar::proofs::SkipLaws::no_scalar), unfolding(json_grammar::specs::Skip::skip_value))]
 pub fn skip_value(s: &[u8], at: usize) -> usize
     ensures { result ≡ skip_value s.now at }
 {
-    let b = peek(s, at);
-    if b == b'"' {
-        return skip_string(s, at + 1);
+    match peek(s, at) {
+        b'"' => skip_string(s, at + 1),
+        b'[' | b'{' => skip_open(s, at + 1),
+        _ => skip_while::<Scalar>(s, at),
     }
-    if is_open(b) {
-        return skip_open(s, at + 1);
-    }
-    skip_scalar(s, at)
 }
 
 // Past a comma and blanks, or at the close.
+#[tactic(auto, unfolding(crate::specs::Members::next_item))]
 pub fn next_item(s: &[u8], at: usize) -> usize
     ensures { result ≡ next_item s.now at }
 {
-    let c = Cursor { at: at }.skip_indent(s);
-    let k = c.at;
-    let b = peek(s, k);
-    if b == b',' {
-        let d = Cursor { at: k + 1 }.skip_indent(s);
-        return d.at;
+    let k = Cursor { at }.skip_indent(s).at;
+    if peek(s, k) == b',' {
+        return Cursor { at: k + 1 }.skip_indent(s).at;
     }
     k
 }
 
 // The name of the member of an object at a place.
-pub fn next_name(s: &[u8], at: usize) -> NameStep
+#[tactic(auto, using(json_grammar::proofs::SkipLaws::quoted_onward), unfolding(crate::specs::Members::name_step))]
+pub fn next_name(s: &[u8], at: usize) -> Option<MemberName>
     ensures { result ≡ name_step s.now at }
 {
-    let b = peek(s, at);
-    if b == b'"' {
-        let e = skip_string(s, at + 1);
-        let r = Cursor { at: e }.colon(s);
-        let Read::To(c) = r else {
-            return NameStep::End;
-        };
-        return NameStep::Found(MemberName {
-            name: at + 1,
-            quote: e - 1,
-            value: c.at,
-        });
+    if peek(s, at) != b'"' {
+        return None;
     }
-    NameStep::End
+    let e = skip_string(s, at + 1);
+    let c = Cursor { at: e }.colon(s)?;
+    Some(MemberName {
+        name: at + 1,
+        quote: e - 1,
+        value: c.at,
+    })
 }
 
 // The member of an object at a place.
-pub fn next_member(s: &[u8], at: usize) -> MemberStep
+#[tactic(auto, unfolding(crate::specs::Members::name_step, crate::specs::Members::member_step))]
+pub fn next_member(s: &[u8], at: usize) -> Option<(Member, usize)>
     ensures { result ≡ member_step s.now at }
 {
-    let g = next_name(s, at);
-    let NameStep::Found(n) = g else {
-        return MemberStep::End;
+    let MemberName { name, quote, value } = next_name(s, at)?;
+    let end = skip_value(s, value);
+    let member = Member {
+        name,
+        quote,
+        value,
+        end,
     };
-    let w = skip_value(s, n.value);
-    let j = next_item(s, w);
-    MemberStep::Found(
-        Member {
-            name: n.name,
-            quote: n.quote,
-            value: n.value,
-            end: w,
-        },
-        j,
-    )
+    Some((member, next_item(s, end)))
 }
 
 // The element of an array at a place.
-pub fn next_element(s: &[u8], at: usize) -> ElementStep
+#[tactic(auto, unfolding(crate::specs::Members::element_step))]
+pub fn next_element(s: &[u8], at: usize) -> Option<(Element, usize)>
     ensures { result ≡ element_step s.now at }
 {
-    let w = skip_value(s, at);
-    if at < w {
-        let j = next_item(s, w);
-        return ElementStep::Found(Element { at: at, end: w }, j);
+    let end = skip_value(s, at);
+    if end <= at {
+        return None;
     }
-    ElementStep::End
+    Some((Element { at, end }, next_item(s, end)))
 }

@@ -4,7 +4,7 @@
 // says so on standard error.
 #![tactic(auto)]
 
-use first_line::{FirstLine, after, first_line};
+use first_line::{after, first_line};
 use limits::Limits;
 use listing_output::{ANNOTATIONS, CAPTURES, print_listing};
 use standard_streams::{is_unread, read_full, refuse};
@@ -17,26 +17,22 @@ const INPUT: usize = first_line::LONGEST + LONGEST + Limits::METADATA + 1;
 fn main(rt: HostRuntime) {
     let mut input = [0u8; INPUT];
     let n = read_full(&mut rt.stdin(), &mut input);
-    if n < INPUT {
-        if is_unread(&mut rt.stdin()) {
-            let _ = rt
-                .stderr()
-                .write_all(b"list_table: the input could not be read to its end\n");
-            return;
-        }
-    }
-    if run(rt, &input[..n]) {
+    if n < INPUT && is_unread(&mut rt.stdin()) {
+        let _ = rt
+            .stderr()
+            .write_all(b"list_table: the input could not be read to its end\n");
         return;
     }
-    let _ = rt
-        .stderr()
-        .write_all(b"list_table: the answer could not be written\n");
+    if !run(rt, &input[..n]) {
+        let _ = rt
+            .stderr()
+            .write_all(b"list_table: the answer could not be written\n");
+    }
 }
 
 // Answers an input; whether the answer was written.
 fn run(rt: HostRuntime, input: &[u8]) -> bool {
-    let f = first_line(input);
-    let FirstLine::Size(n, at) = f else {
+    let Some((n, at)) = first_line(input) else {
         return refuse(&rt, 1);
     };
     divide(rt, after(input, at), n as usize)
@@ -44,16 +40,13 @@ fn run(rt: HostRuntime, input: &[u8]) -> bool {
 
 // The table is the first n bytes, and the metadata is the rest.
 fn divide(rt: HostRuntime, bytes: &[u8], n: usize) -> bool {
-    if n > LONGEST {
-        return no_such_table(rt);
-    }
-    if n > bytes.len() {
+    if n > LONGEST || n > bytes.len() {
         return no_such_table(rt);
     }
     if bytes.len() - n > Limits::METADATA {
         return refuse(&rt, 1);
     }
-    list(rt, &bytes[0..n], &bytes[n..])
+    list(rt, &bytes[..n], &bytes[n..])
 }
 
 fn no_such_table(rt: HostRuntime) -> bool {

@@ -1,6 +1,6 @@
 -- Laws of the lines.
-use Prim.Native.Nat.{ℕ, ◌+◌, ◌-◌, ◌≤◌, ◌<◌}
-use mathlib.Core.Path.{◌≡◌, sym, ap, ◌∙◌}
+use Prim.Native.Nat.{ℕ, ◌+◌}
+use mathlib.Core.Path.{◌≡◌, ◌∙◌}
 use mathlib.Core.List.{List, [], ◌∷◌, ◌++◌}
 use native.Mathlib.Omega.{arith}
 use lib.ListN.{length}
@@ -10,10 +10,6 @@ use Rattle.table.specs.declared.Annotation.{Annotation}
 use Rattle.table.specs.declared.Capture.{Capture}
 use Rattle.table.specs.declared.Place.{Place}
 use Rattle.table.specs.declared.Summary.{Summary}
-use Rattle.output.specs.declared.Left.{Left}
-use Rattle.output.specs.declared.Left.TheVariants.{Over}
-use Rattle.output.specs.Left.{left_after}
-use Rattle.output.proofs.LeftLaws.{left_over, left_on}
 use Rattle.output.proofs.Writing.{Parts, parts_of, parts_long, pair_parts, parts_pair, parts_pair_next}
 use Rattle.decimal.specs.Decimal.{digits_of, field}
 use Rattle.decimal.proofs.PutLaws.{field_long}
@@ -56,23 +52,22 @@ pub annotation_parts : (s : List ℕ) (r : Annotation) → Parts (annotation_lin
 annotation_parts s r = parts_pair_next (parts_pair_next (parts_pair (annotation_all s r)))
 
 -- ---- how long they are
-pub recording_long : (t : Summary) (a b c d : ℕ) → a ≡ length (datatype_name t.datatype) → b ≡ length (digits_of t.channels) → c ≡ length (digits_of t.offset) → d ≡ length (digits_of t.samples)
-    → 38 + a + b + c + d ≡ length (recording_line t)
-recording_long t a b c d p q u v =
+pub recording_long : (t : Summary) → length (recording_line t)
+    ≡ 38 + length (datatype_name t.datatype) + length (digits_of t.channels) + length (digits_of t.offset) + length (digits_of t.samples)
+recording_long t =
     omega (arith, parts_long (recording_all t), field_long (ascii " channels ") t.channels, field_long (ascii " offset ") t.offset, field_long (ascii " samples ") t.samples)
 
-pub capture_long : (r : Capture) (a b c d : ℕ) → a ≡ length (digits_of r.start) → b ≡ length (digits_of r.end) → c ≡ length (digits_of r.first) → d ≡ length (digits_of r.header)
-    → 12 + a + b + c + d ≡ length (capture_line r)
-capture_long r a b c d p q u v =
+pub capture_long : (r : Capture) → length (capture_line r)
+    ≡ 12 + length (digits_of r.start) + length (digits_of r.end) + length (digits_of r.first) + length (digits_of r.header)
+capture_long r =
     omega (arith, parts_long (capture_all r), field_long (ascii "capture ") r.start, field_long (ascii " ") r.end, field_long (ascii " ") r.first, field_long (ascii " ") r.header)
 
--- ---- what an annotation's line leaves of a room; a and b are its numbers' lengths
-module _ (s : List ℕ) (r : Annotation) (a b room : ℕ) (p : a ≡ length (digits_of r.start)) (q : b ≡ length (digits_of r.end)) where
-  annotation_long : length (annotation_line s r) ≡ 14 + a + b + length (shown_text s r.texts.label)
-  annotation_long = omega (arith, parts_long (annotation_all s r), field_long (ascii "annotation ") r.start, field_long (ascii " ") r.end)
+pub annotation_long : (s : List ℕ) (r : Annotation) → length (annotation_line s r)
+    ≡ 14 + length (digits_of r.start) + length (digits_of r.end) + length (shown_text s r.texts.label)
+annotation_long s r = omega (arith, parts_long (annotation_all s r), field_long (ascii "annotation ") r.start, field_long (ascii " ") r.end)
 
-  pub annotation_over : room < 14 + a + b → Over ≡ left_after room (length (annotation_line s r))
-  annotation_over h = left_over room (14 + a + b) (length (shown_text s r.texts.label)) h ∙ ap (left_after room) (sym annotation_long)
+pub two_long : (w : List ℕ) (a : ℕ) (v : List ℕ) (b : ℕ) → length (two_fields w a v b) ≡ length (field w a) + length (field v b)
+two_long w a v b = parts_long (two_parts w a v b) ∙ omega arith
 
-  pub annotation_leaves : 14 + a + b ≤ room → (g : Left) → g ≡ left_after (room - (14 + a + b)) (length (shown_text s r.texts.label)) → g ≡ left_after room (length (annotation_line s r))
-  annotation_leaves h g e = e ∙ left_on room (14 + a + b) (length (shown_text s r.texts.label)) h ∙ ap (left_after room) (sym annotation_long)
+pub last_long : (s : List ℕ) (p : Place) → length (last_text s p) ≡ 2 + length (shown_text s p)
+last_long s p = parts_long (last_parts s p) ∙ omega arith

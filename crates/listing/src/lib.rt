@@ -14,59 +14,41 @@ use crate::lines::{
     annotation_left, capture_length, put_annotation_line, put_capture_line, put_recording_line,
     recording_length,
 };
-use output::Left;
 use table::{Summary, Wrote};
 
 // What the captures' lines leave of the room.
-fn captures_left(t: Summary, caps: &[u64], room: usize) -> Left
+#[tactic(auto, using(output::proofs::RowLines::row_lengths), unfolding(output::specs::Left::left_after))]
+fn captures_left(t: Summary, caps: &[u64], room: usize) -> Option<usize>
     ensures { result ≡ left_after room (length (flat capture_line (captures caps.now t.captures))) }
 {
     let n = t.captures as usize;
     let mut left = room;
-    let mut k: usize = 0;
-    while k < n {
-        let x = table::capture_at(caps, k);
-        let l = capture_length(x);
-        if l > left {
-            return Left::Over;
-        }
-        left -= l;
-        k += 1;
+    for k in 0..n {
+        left = left.checked_sub(capture_length(table::capture_at(caps, k)))?;
     }
-    Left::Bytes(left)
+    Some(left)
 }
 
 // What the annotations' lines leave of the room.
-fn annotations_left(t: Summary, notes: &[u64], s: &[u8], room: usize) -> Left
+#[tactic(auto, using(output::proofs::RowLines::row_lengths), unfolding(output::specs::Left::left_after))]
+fn annotations_left(t: Summary, notes: &[u64], s: &[u8], room: usize) -> Option<usize>
     ensures { result ≡ left_after room (length (flat (annotation_line s.now) (annotations notes.now t.annotations))) }
 {
     let n = t.annotations as usize;
     let mut left = room;
-    let mut k: usize = 0;
-    while k < n {
-        let x = table::annotation_at(notes, k);
-        let g = annotation_left(x, s, left);
-        let Left::Bytes(more) = g else {
-            return Left::Over;
-        };
-        left = more;
-        k += 1;
+    for k in 0..n {
+        left = annotation_left(table::annotation_at(notes, k), s, left)?;
     }
-    Left::Bytes(left)
+    Some(left)
 }
 
 // What the listing leaves of the room.
-fn listing_left(t: Summary, caps: &[u64], notes: &[u64], s: &[u8], room: usize) -> Left
+#[tactic(auto, using(std::proofs::lemmas::Bool::Decides::nat_tests, crate::proofs::ListingLaws::long), unfolding(output::specs::Left::left_after))]
+fn listing_left(t: Summary, caps: &[u64], notes: &[u64], s: &[u8], room: usize) -> Option<usize>
     ensures { result ≡ left_after room (length (listing_of (table t caps.now notes.now) s.now)) }
 {
-    let l = recording_length(t);
-    if l > room {
-        return Left::Over;
-    }
-    let c = captures_left(t, caps, room - l);
-    let Left::Bytes(left) = c else {
-        return Left::Over;
-    };
+    let left = room.checked_sub(recording_length(t))?;
+    let left = captures_left(t, caps, left)?;
     annotations_left(t, notes, s, left)
 }
 
@@ -77,13 +59,10 @@ fn write_captures(out: &mut [u8], t: Summary, caps: &[u64]) -> usize
     ensures memory { out.new ≡ written (flat capture_line (captures caps.now t.captures)) out.old }
 {
     let n = t.captures as usize;
-    let mut used: usize = 0;
-    let mut k: usize = 0;
-    while k < n {
+    let mut used = 0;
+    for k in 0..n {
         let x = table::capture_at(caps, k);
-        let l = put_capture_line(&mut out[used..], x);
-        used += l;
-        k += 1;
+        used += put_capture_line(&mut out[used..], x);
     }
     used
 }
@@ -95,18 +74,16 @@ fn write_annotations(out: &mut [u8], t: Summary, notes: &[u64], s: &[u8]) -> usi
     ensures memory { out.new ≡ written (flat (annotation_line s.now) (annotations notes.now t.annotations)) out.old }
 {
     let n = t.annotations as usize;
-    let mut used: usize = 0;
-    let mut k: usize = 0;
-    while k < n {
+    let mut used = 0;
+    for k in 0..n {
         let x = table::annotation_at(notes, k);
-        let l = put_annotation_line(&mut out[used..], x, s);
-        used += l;
-        k += 1;
+        used += put_annotation_line(&mut out[used..], x, s);
     }
     used
 }
 
 // The listing, written to the front of out, which has room; how many bytes it is.
+#[tactic(auto, using(std::proofs::lemmas::Bool::Decides::nat_tests, std::proofs::lemmas::Slice::overwrites, crate::proofs::ListingLaws::long), unfolding(crate::specs::Listing::listing_of))]
 fn write_listing(out: &mut [u8], t: Summary, caps: &[u64], notes: &[u64], s: &[u8]) -> usize
     requires { length (listing_of (table t caps.now notes.now) s.now) ≤ length out.old }
     ensures count { result ≡ length (listing_of (table t caps.now notes.now) s.now) }
@@ -120,32 +97,26 @@ fn write_listing(out: &mut [u8], t: Summary, caps: &[u64], notes: &[u64], s: &[u
 }
 
 // The listing of a table, written to the front of out.
+#[tactic(auto, using(std::proofs::lemmas::Bool::Decides::nat_tests), unfolding(output::specs::Left::left_after, crate::specs::Listing::listing_answer))]
 pub fn listing(t: Summary, caps: &[u64], notes: &[u64], s: &[u8], out: &mut [u8]) -> Wrote
     ensures answer { result ≡ listing_answer (table t caps.now notes.now) s.now (length out.old) }
     ensures memory { out.new ≡ listing_memory (table t caps.now notes.now) s.now out.old }
 {
-    if table::well_formed(t, caps, notes) {
-        if listing_labels::labels_ok(t, notes, s) {
-            let g = listing_left(t, caps, notes, s, out.len());
-            let Left::Bytes(left) = g else {
-                return Wrote {
-                    refusal: 20,
-                    count: 0,
-                };
-            };
-            let n = write_listing(out, t, caps, notes, s);
-            return Wrote {
-                refusal: 0,
-                count: n as u64,
-            };
-        }
+    if !table::well_formed(t, caps, notes) || !listing_labels::labels_ok(t, notes, s) {
         return Wrote {
             refusal: 18,
             count: 0,
         };
     }
+    if listing_left(t, caps, notes, s, out.len()).is_none() {
+        return Wrote {
+            refusal: 20,
+            count: 0,
+        };
+    }
+    let n = write_listing(out, t, caps, notes, s);
     Wrote {
-        refusal: 18,
-        count: 0,
+        refusal: 0,
+        count: n as u64,
     }
 }

@@ -8,10 +8,11 @@ ghost use Rattle.listing.specs.LineParts.{two_fields, last_text};
 
 use decimal::{decimal_length, put_field};
 use listing_text::{put_text, text_left};
-use output::{Left, put_datatype_name, put_word};
+use output::{put_datatype_name, put_word};
 use table::{Annotation, Capture, Place, Summary};
 
 // Two words, each with its number, and how many bytes they are.
+#[tactic(auto, using(std::proofs::lemmas::Bool::Decides::nat_tests, std::proofs::lemmas::Slice::overwrites, crate::proofs::LineLaws::two_long), unfolding(output::specs::Put::put_count, output::specs::Put::put_front))]
 fn put_two(out: &mut [u8], first: &[u8], n: u64, second: &[u8], m: u64) -> usize
     requires { length (two_fields first.now n second.now m) ≤ length out.old }
     ensures count { result ≡ length (two_fields first.now n second.now m) }
@@ -23,6 +24,7 @@ fn put_two(out: &mut [u8], first: &[u8], n: u64, second: &[u8], m: u64) -> usize
 }
 
 // A word and a datatype's name, and how many bytes they are.
+#[tactic(auto, using(std::proofs::lemmas::Bool::Decides::nat_tests, std::proofs::lemmas::Slice::overwrites), unfolding(output::specs::Put::put_count, output::specs::Put::put_front))]
 fn put_datatype(out: &mut [u8], word: &[u8], code: u64) -> usize
     requires { length (word.now ++ datatype_name code) ≤ length out.old }
     ensures count { result ≡ length (word.now ++ datatype_name code) }
@@ -34,6 +36,7 @@ fn put_datatype(out: &mut [u8], word: &[u8], code: u64) -> usize
 }
 
 // A text between a space and a line feed, and how many bytes they are.
+#[tactic(auto, using(std::proofs::lemmas::Bool::Decides::nat_tests, std::proofs::lemmas::Slice::overwrites, crate::proofs::LineLaws::last_long), unfolding(output::specs::Put::put_count, output::specs::Put::put_front))]
 fn put_last(out: &mut [u8], s: &[u8], p: Place) -> usize
     requires { length (last_text s.now p) ≤ length out.old }
     ensures count { result ≡ length (last_text s.now p) }
@@ -45,23 +48,17 @@ fn put_last(out: &mut [u8], s: &[u8], p: Place) -> usize
     n + 1
 }
 
-// A datatype's name has so many bytes.
-fn name_length(code: u64) -> usize
-    ensures { (result ≡ length (datatype_name code)) × (result ≤ 8) }
-{
-    sigmf_datatypes::name_length(code)
-}
-
+#[tactic(auto, using(sigmf_datatypes::proofs::Laws::name_most, crate::proofs::LineLaws::recording_long))]
 pub(crate) fn recording_length(t: Summary) -> usize
     ensures { result ≡ length (recording_line t) }
 {
-    let d = name_length(t.datatype);
-    let c = decimal_length(t.channels);
-    let o = decimal_length(t.offset);
-    let n = decimal_length(t.samples);
-    38 + d + c + o + n
+    38 + sigmf_datatypes::name_length(t.datatype)
+        + decimal_length(t.channels)
+        + decimal_length(t.offset)
+        + decimal_length(t.samples)
 }
 
+#[tactic(auto, using(std::proofs::lemmas::Bool::Decides::nat_tests, std::proofs::lemmas::Slice::overwrites, crate::proofs::LineLaws::recording_long, crate::proofs::LineLaws::two_long), unfolding(output::specs::Put::put_count, output::specs::Put::put_front, crate::specs::Lines::recording_line))]
 pub(crate) fn put_recording_line(out: &mut [u8], t: Summary) -> usize
     requires { length (recording_line t) ≤ length out.old }
     ensures count { result ≡ length (recording_line t) }
@@ -81,16 +78,17 @@ pub(crate) fn put_recording_line(out: &mut [u8], t: Summary) -> usize
     c + 1
 }
 
+#[tactic(auto, using(crate::proofs::LineLaws::capture_long))]
 pub(crate) fn capture_length(x: Capture) -> usize
     ensures { result ≡ length (capture_line x) }
 {
-    let a = decimal_length(x.start);
-    let b = decimal_length(x.end);
-    let c = decimal_length(x.first);
-    let d = decimal_length(x.header);
-    12 + a + b + c + d
+    12 + decimal_length(x.start)
+        + decimal_length(x.end)
+        + decimal_length(x.first)
+        + decimal_length(x.header)
 }
 
+#[tactic(auto, using(std::proofs::lemmas::Bool::Decides::nat_tests, std::proofs::lemmas::Slice::overwrites, crate::proofs::LineLaws::capture_long, crate::proofs::LineLaws::two_long), unfolding(output::specs::Put::put_count, output::specs::Put::put_front, crate::specs::Lines::capture_line))]
 pub(crate) fn put_capture_line(out: &mut [u8], x: Capture) -> usize
     requires { length (capture_line x) ≤ length out.old }
     ensures count { result ≡ length (capture_line x) }
@@ -103,18 +101,16 @@ pub(crate) fn put_capture_line(out: &mut [u8], x: Capture) -> usize
 }
 
 // What an annotation's line leaves of a room.
-pub(crate) fn annotation_left(x: Annotation, s: &[u8], room: usize) -> Left
+#[tactic(auto, using(std::proofs::lemmas::Bool::Decides::nat_tests, crate::proofs::LineLaws::annotation_long), unfolding(output::specs::Left::left_after))]
+pub(crate) fn annotation_left(x: Annotation, s: &[u8], room: usize) -> Option<usize>
     ensures { result ≡ left_after room (length (annotation_line s.now x)) }
 {
-    let a = decimal_length(x.start);
-    let b = decimal_length(x.end);
-    let n = 14 + a + b;
-    if n > room {
-        return Left::Over;
-    }
-    text_left(s, x.texts.label, room - n)
+    let numbers = decimal_length(x.start) + decimal_length(x.end);
+    let left = room.checked_sub(14 + numbers)?;
+    text_left(s, x.texts.label, left)
 }
 
+#[tactic(auto, using(std::proofs::lemmas::Bool::Decides::nat_tests, std::proofs::lemmas::Slice::overwrites, crate::proofs::LineLaws::annotation_long, crate::proofs::LineLaws::two_long, crate::proofs::LineLaws::last_long), unfolding(output::specs::Put::put_count, output::specs::Put::put_front, crate::specs::Lines::annotation_line))]
 pub(crate) fn put_annotation_line(out: &mut [u8], x: Annotation, s: &[u8]) -> usize
     requires { length (annotation_line s.now x) ≤ length out.old }
     ensures count { result ≡ length (annotation_line s.now x) }

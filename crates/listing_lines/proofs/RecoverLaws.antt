@@ -1,4 +1,5 @@
 -- What was written is read back: numbers up to a space, and a label's bytes.
+use Rattle.std.specs.Prelude.{None, Option, Some}
 use Prim.Native.Nat.{ℕ, zero, suc, ◌+◌, ◌*◌, ◌-◌, ◌/◌, ◌%◌, ◌≤◌, ◌<◌}
 use mathlib.Core.Path.{◌≡◌, refl, ap, ◌∙◌}
 use mathlib.Core.Bool.{Bool, true, false, not, cond}
@@ -14,8 +15,6 @@ use Rattle.json_blocks.specs.TextBytes.{byte, within}
 use Rattle.json_characters.specs.String as T
 use Rattle.json_blocks.proofs.ByteLaws.{cond_elim}
 use Rattle.json_strings.proofs.LengthLaws.{unit_point}
-use Rattle.json_strings.specs.declared.Unit.{Unit}
-use Rattle.json_strings.specs.declared.Unit.TheVariants.{Byte, Escape}
 use Rattle.json_strings.specs.Decode.{unit_at, unit_bytes, unit_end, ends_string, decoded_units, decoded_from}
 use Rattle.json_strings.specs.Utf8.{utf8}
 use Rattle.json_blocks.specs.Lists.{all}
@@ -123,10 +122,10 @@ utf8_small p h =
     (λ _. rw (lt-ltb (0xF0 + p / 0x40000) 256 (omega arith), lt-ltb (0x80 + p / 0x1000 % 0x40) 256 (omega arith), lt-ltb (0x80 + p / 0x40 % 0x40) 256 (omega arith), lt-ltb (0x80 + p % 0x40) 256 (omega arith)))))
 
 module _ (s : List ℕ) (h : (i : ℕ) → byte s i < 256) where
-  unit_small : (at : ℕ) (u : Unit) → unit_at s at ≡ u → Small (unit_bytes s at u)
+  unit_small : (at : ℕ) (u : Option (ℕ × ℕ)) → unit_at s at ≡ u → Small (unit_bytes s at u)
   unfolding all
-  unit_small at Byte e = rw (lt-ltb _ _ (h at))
-  unit_small at (Escape p j) e = utf8_small p (unit_point s at p j e)
+  unit_small at None e = rw (lt-ltb _ _ (h at))
+  unit_small at (Some (p, j)) e = utf8_small p (unit_point s at p j e)
 
   units_small : (n at : ℕ) → Small (decoded_units n s at)
   unfolding decoded_units all

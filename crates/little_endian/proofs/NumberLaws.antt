@@ -1,11 +1,10 @@
 -- Numbers as bytes: how many, read back, and written back.
 use Prim.Native.Nat.{ℕ, zero, suc, ◌+◌, ◌*◌, ◌/◌, ◌%◌, ◌^◌, ◌<◌}
-use mathlib.Core.Path.{◌≡◌, refl, ap, ◌∙◌}
+use mathlib.Core.Path.{◌≡◌, refl, ap}
 use mathlib.Core.List.{List, [], ◌∷◌}
 use native.Mathlib.Omega.{arith}
 use native.Mathlib.Nat.{pow-succ'}
 use lib.ListN.{length, get_or, take, drop}
-use lib.Seq.{drop-drop}
 use Rattle.little_endian.specs.LittleEndian.{little_endian, number_of, number_width, numbers_from}
 
 -- ---- one number
@@ -50,11 +49,3 @@ pub numbers_length : (n : ℕ) (l : List ℕ) → length (numbers_from n l) ≡ 
 unfolding numbers_from
 numbers_length zero l = refl
 numbers_length (suc n) l = ap suc (numbers_length n (drop number_width l))
-
-pub numbers_at : (n : ℕ) (l : List ℕ) (i : ℕ) → i < n → get_or (numbers_from n l) i 0 ≡ number_of (take number_width (drop (number_width * i) l))
-unfolding numbers_from
-numbers_at zero l i h = absurd (omega arith)
-numbers_at (suc n) l zero h = refl
-numbers_at (suc n) l (suc i) h =
-    let e : number_width + number_width * i ≡ number_width * suc i = omega arith in
-    numbers_at n (drop number_width l) i (omega arith) ∙ ap (λ (k : List ℕ). number_of (take number_width k)) (drop-drop (number_width * i) number_width l ∙ ap (λ (k : ℕ). drop k l) e)

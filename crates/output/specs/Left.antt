@@ -1,7 +1,5 @@
 -- What a number of bytes leaves of a room.
-use Rattle.std.specs.Prelude.{ℕ, ◌-◌, cond, leb}
-use Rattle.output.specs.declared.Left.{Left}
-use Rattle.output.specs.declared.Left.TheVariants.{Bytes, Over}
+use Rattle.std.specs.Prelude.{ℕ, ◌-◌, cond, leb, None, Option, Some}
 
-unfoldable pub left_after : ℕ → ℕ → Left
-left_after room n = cond (leb n room) (Bytes (room - n)) Over
+unfoldable pub left_after : ℕ → ℕ → Option ℕ
+left_after room n = cond (leb n room) (Some (room - n)) None

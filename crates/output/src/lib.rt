@@ -5,14 +5,8 @@ ghost use Rattle.std.specs.Prelude.{◌≡◌};
 ghost use Rattle.sigmf_datatypes.specs.Datatypes.{datatype_name};
 ghost use Rattle.output.specs.Put.{put_count, put_front};
 
-// How many bytes of a room are left, or that it is too small.
-#[derive(Clone, Copy)]
-pub enum Left {
-    Bytes(usize),
-    Over,
-}
-
 // A word, put to the front of out if it fits; how many bytes were put.
+#[tactic(auto, unfolding(crate::specs::Put::put_count, crate::specs::Put::put_front))]
 pub fn put_word(out: &mut [u8], word: &[u8]) -> usize
     ensures count { result ≡ put_count word.now out.old }
     ensures memory { out.new ≡ put_front word.now out.old }
@@ -21,11 +15,7 @@ pub fn put_word(out: &mut [u8], word: &[u8]) -> usize
     if n > out.len() {
         return 0;
     }
-    let mut i: usize = 0;
-    while i < n {
-        out[i] = word[i];
-        i += 1;
-    }
+    out[..n].copy_from_slice(word);
     n
 }
 
@@ -34,14 +24,5 @@ pub fn put_datatype_name(out: &mut [u8], code: u64) -> usize
     ensures count { result ≡ put_count (datatype_name code) out.old }
     ensures memory { out.new ≡ put_front (datatype_name code) out.old }
 {
-    let c = sigmf_datatypes::name_length(code);
-    if c > out.len() {
-        return 0;
-    }
-    let mut i: usize = 0;
-    while i < c {
-        out[i] = sigmf_datatypes::name_byte(code, i);
-        i += 1;
-    }
-    c
+    put_word(out, sigmf_datatypes::name_bytes(code))
 }

@@ -1,8 +1,9 @@
 -- The elements of an array, read one by one into flat memory.
+use Rattle.std.specs.Prelude.{None, Some, Option}
 use mathlib.Core.Path.{◌≡◌, refl, sym, ap, ◌∙◌}
 use mathlib.Core.Bool.{Bool, true, false, cond}
 use mathlib.Core.List.{List, [], ◌∷◌, ◌++◌, append_assoc, append-nil}
-use mathlib.Core.Option.{Option, none, some}
+use mathlib.Core.Option.{Option as Maybe, none, some}
 use Prim.Native.Nat.{ℕ, zero, suc, ◌≤◌, ◌<◌, ◌+◌, ◌-◌, ◌*◌}
 use native.Mathlib.Omega.{arith}
 use lib.ListN.{length, take, drop, length-append, length-take, length-drop}
@@ -21,8 +22,6 @@ use Rattle.json_names.proofs.SameLaws.{same_is}
 use Rattle.json_strings.proofs.LengthLaws.{decoded_short}
 use Rattle.json_walk.specs.declared.Member.{Member}
 use Rattle.json_walk.specs.declared.Element.{Element}
-use Rattle.json_walk.specs.declared.MemberStep.{MemberStep}
-use Rattle.json_walk.specs.declared.MemberStep.TheVariants as M
 use Rattle.json_walk.specs.Members.{next_item, member_step, member_found, element_step, members_end_from, members_end, elements_from, elements_at}
 use Rattle.json_walk.proofs.StepLaws.{member_steps}
 use Rattle.json_walk.proofs.EndLaws.{members_found, members_over, members_end_found, members_end_over, member_places, elements_found, elements_over}
@@ -34,15 +33,12 @@ use Rattle.sigmf_extensions.specs.Extensions.{member_name}
 use Rattle.table.specs.Memory.{put_row}
 use Rattle.table.specs.Rows.{flat}
 use Rattle.table.proofs.RowLaws.{put_room}
-use Rattle.reader_layout.specs.Entries.{entry_width, entry_numbers, note_width, note_numbers}
-use Rattle.sigmf_objects.specs.declared.CaptureFound.{CaptureFound}
-use Rattle.sigmf_objects.specs.declared.AnnotationFound.{AnnotationFound}
 use Rattle.sigmf_objects.specs.Fields.{Value, field_of, fields_at, close_at, number_in, last_where, value_from, value_in, is_absent, missing_from}
 use Rattle.sigmf_objects.specs.Capture.{read_capture}
 use Rattle.sigmf_objects.specs.Annotation.{read_annotation}
 use Rattle.sigmf_objects.proofs.WalkLaws.{fields_from, close_inside}
-use Rattle.reader.specs.declared.Kind.{Kind}
-use Rattle.reader.specs.declared.Kind.TheVariants as K
+use Rattle.reader.specs.Kind.{Kind}
+use Rattle.reader.specs.Kind as K
 use Rattle.reader.specs.File.{is_object}
 use Rattle.reader.specs.Parts.{top_levels, array_levels, entry_bytes, WasRead, entry_size, object_low, object_numbers, element_low, element_end, element_put, array_low, EntriesKept}
 use Rattle.reader.proofs.StageLaws.{or_falses}
@@ -52,15 +48,15 @@ module _ (s : List ℕ) where
   ends_onward : (n i : ℕ) → length s - i < n → i ≤ members_end_from s i
   ends_onward zero i h = absurd (omega arith)
   ends_onward (suc n) i h = go (member_step s i) refl (λ j. ends_onward n j) where
-    go : (x : MemberStep) → member_step s i ≡ x → ((j : ℕ) → length s - j < n → j ≤ members_end_from s j) → i ≤ members_end_from s i
-    go (M.Found m j) e k =
+    go : (x : Option (Member × ℕ)) → member_step s i ≡ x → ((j : ℕ) → length s - j < n → j ≤ members_end_from s j) → i ≤ members_end_from s i
+    go (Some (m, j)) e k =
         let o = member_steps s i m j (ap member_found e) in
         omega (arith, members_end_found s i m j e, k j (omega arith), o.0)
-    go M.End e k = omega (arith, members_end_over s i e)
+    go None e k = omega (arith, members_end_over s i e)
 
   module _ (c : Core) (cs : List Core) (long : 17 ≤ length (core_name c)) where
     -- the member with the first core name
-    name_long : (i : ℕ) (m : Member) (j : ℕ) → member_step s i ≡ M.Found m j → number_in (c ∷ cs) (field_of s m) ≡ 0 → i + 19 ≤ m.value
+    name_long : (i : ℕ) (m : Member) (j : ℕ) → member_step s i ≡ Some (m, j) → number_in (c ∷ cs) (field_of s m) ≡ 0 → i + 19 ≤ m.value
     unfolding index_in
     name_long i m j e h = go (same (member_name s m) (core_name c)) refl h where
       go : (t : Bool) → same (member_name s m) (core_name c) ≡ t → cond t 0 (suc (index_in core_name cs (member_name s m))) ≡ 0 → i + 19 ≤ m.value
@@ -72,14 +68,14 @@ module _ (s : List ℕ) where
           omega (arith, p.name, p.value, decoded_short raw)
       go false q h = absurd (omega arith)
 
-    members_long : (n i : ℕ) → length s - i < n → (z : Option Value) → is_absent z ≡ true
+    members_long : (n i : ℕ) → length s - i < n → (z : Maybe Value) → is_absent z ≡ true
         → is_absent (value_from (c ∷ cs) 0 z (fields_from s i)) ≡ false → i + 19 ≤ members_end_from s i
     unfolding last_where
     members_long zero i h z a b = absurd (omega arith)
     members_long (suc n) i h z a b = go (member_step s i) refl (λ j. members_long n j) where
-      step : (m : Member) (j : ℕ) → member_step s i ≡ M.Found m j → (t : Bool) → eqb (number_in (c ∷ cs) (field_of s m)) 0 ≡ t
+      step : (m : Member) (j : ℕ) → member_step s i ≡ Some (m, j) → (t : Bool) → eqb (number_in (c ∷ cs) (field_of s m)) 0 ≡ t
           → is_absent (value_from (c ∷ cs) 0 (cond t (some (field_of s m).value) z) (fields_from s j)) ≡ false
-          → ((j : ℕ) → length s - j < n → (z : Option Value) → is_absent z ≡ true → is_absent (value_from (c ∷ cs) 0 z (fields_from s j)) ≡ false → j + 19 ≤ members_end_from s j)
+          → ((j : ℕ) → length s - j < n → (z : Maybe Value) → is_absent z ≡ true → is_absent (value_from (c ∷ cs) 0 z (fields_from s j)) ≡ false → j + 19 ≤ members_end_from s j)
           → i + 19 ≤ members_end_from s i
       step m j e true q v k =
           omega (arith, name_long i m j e (eqb-true _ _ q), (member_places s i m j e).end, (member_places s i m j e).next, ends_onward (suc (length s)) j (omega arith), members_end_found s i m j e)
@@ -87,11 +83,11 @@ module _ (s : List ℕ) where
           let o = member_steps s i m j (ap member_found e) in
           omega (arith, o.0, k j (omega (arith, o.0, o.1)) z a v, members_end_found s i m j e)
 
-      go : (x : MemberStep) → member_step s i ≡ x
-          → ((j : ℕ) → length s - j < n → (z : Option Value) → is_absent z ≡ true → is_absent (value_from (c ∷ cs) 0 z (fields_from s j)) ≡ false → j + 19 ≤ members_end_from s j)
+      go : (x : Option (Member × ℕ)) → member_step s i ≡ x
+          → ((j : ℕ) → length s - j < n → (z : Maybe Value) → is_absent z ≡ true → is_absent (value_from (c ∷ cs) 0 z (fields_from s j)) ≡ false → j + 19 ≤ members_end_from s j)
           → i + 19 ≤ members_end_from s i
-      go (M.Found m j) e k = step m j e (eqb (number_in (c ∷ cs) (field_of s m)) 0) refl (rw (members_found s i m j e) at b) k
-      go M.End e k =
+      go (Some (m, j)) e k = step m j e (eqb (number_in (c ∷ cs) (field_of s m)) 0) refl (rw (members_found s i m j e) at b) k
+      go None e k =
           let v : is_absent z ≡ false = rw (members_over s i e) at b in
           let f : true ≡ false = sym a ∙ v in
           let x : ◌≡◌ {A = ℕ} 0 1 = cc in
@@ -139,18 +135,6 @@ module _ (w n : ℕ) (out xs : List ℕ) (h : length xs ≡ w) where
 numbers_length : (k : Kind) (s : List ℕ) (at : ℕ) → length (object_numbers k s at) ≡ entry_size k
 numbers_length K.Capture s at = refl
 numbers_length K.Annotation s at = refl
-
--- an entry of either kind
-module _ (k : Kind) (s : List ℕ) (at n : ℕ) (out after : List ℕ) where
-  pub capture_put : (x : CaptureFound) → k ≡ K.Capture → x ≡ read_capture s at → after ≡ put_row entry_width out n (entry_numbers x.entry)
-      → (x.low ≡ object_low k s at) × ((x.close ≡ close_at s at) × (after ≡ put_row (entry_size k) out n (object_numbers k s at)))
-  unfolding read_capture
-  capture_put x e f g = (rw (e, f), (rw f, g ∙ ap (λ (y : CaptureFound). put_row entry_width out n (entry_numbers y.entry)) f ∙ rw e))
-
-  pub annotation_put : (x : AnnotationFound) → k ≡ K.Annotation → x ≡ read_annotation s at → after ≡ put_row note_width out n (note_numbers x.entry)
-      → (x.low ≡ object_low k s at) × ((x.close ≡ close_at s at) × (after ≡ put_row (entry_size k) out n (object_numbers k s at)))
-  unfolding read_annotation
-  annotation_put x e f g = (rw (e, f), (rw f, g ∙ ap (λ (y : AnnotationFound). put_row note_width out n (note_numbers y.entry)) f ∙ rw e))
 
 -- ---- an element
 put_same : (k : Kind) (s : List ℕ) (at : ℕ) (out : List ℕ) (n : ℕ) → length (element_put k s at out n) ≡ length out

@@ -1,4 +1,5 @@
 -- The three parts of a file: the lowest of their numbers, and what they say of samples.
+use Rattle.std.specs.Prelude.{None, Option, Some}
 use mathlib.Core.Path.{◌≡◌, refl, sym, ap, ◌∙◌}
 use mathlib.Core.Bool.{Bool, true, false, cond, not, ◌&&◌, ◌||◌}
 use mathlib.Core.List.{List, [], ◌∷◌, ◌++◌, map}
@@ -12,21 +13,19 @@ use Rattle.json_blocks.specs.TextBytes.{byte}
 use Rattle.json_blocks.specs.Lists.{any}
 use Rattle.json_walk.specs.declared.Element.{Element}
 use Rattle.json_walk.specs.Members.{elements_at}
-use Rattle.sigmf_names.specs.Names.{Core, global_fields, capture_fields, annotation_fields}
+use Rattle.sigmf_names.specs.Names.{Core, capture_fields, annotation_fields}
 use Rattle.table.specs.Rows.{rows_from, flat}
 use Rattle.table.proofs.RowLaws.{rows_back}
 use Rattle.table.specs.declared.CaptureEntry.{CaptureEntry}
 use Rattle.table.specs.declared.AnnotationEntry.{AnnotationEntry}
-use Rattle.table.specs.declared.Count.{Count}
-use Rattle.table.specs.declared.Count.TheVariants as C
 use Rattle.reader_layout.specs.Entries.{entry_width, entry_numbers, capture_entry_of, entry_at, stored_count, note_width, note_numbers, note_of, note_at, capture_entries, annotation_entries, stored_contents}
 use Rattle.sigmf_objects.specs.Fields.{Field, fields_at, misnamed, missing, mistyped}
 use Rattle.sigmf_objects.specs.Global.{read_global}
 use Rattle.sigmf_objects.specs.Capture.{bad_datetime, capture_in, read_capture}
 use Rattle.sigmf_objects.specs.Annotation.{annotation_in, read_annotation}
 use Rattle.sigmf_objects.proofs.WalkLaws.{or_false}
-use Rattle.reader.specs.declared.Kind.{Kind}
-use Rattle.reader.specs.declared.Kind.TheVariants as K
+use Rattle.reader.specs.Kind.{Kind}
+use Rattle.reader.specs.Kind as K
 use Rattle.reader.specs.declared.TopPlaces.{TopPlaces}
 use Rattle.reader.specs.declared.TopRead.{TopRead}
 use Rattle.reader.specs.declared.Scanned.{Scanned}
@@ -122,7 +121,7 @@ module _ (s : List ℕ) (t : TopPlaces) (f : TopFound s t) where
   shape_bools true true false a l r e = refl
   shape_bools true true true false false r e = refl
   shape_bools true true true false true r e = refl
-  shape_bools true true true true l r e = let z : ◌≡◌ {A = ℕ} 0 1 = cc in absurd (omega arith)
+  shape_bools true true true true l r e = cc
 
   pub not_shaped : shaped s t ≡ false → misshapen s ≡ true
   not_shaped e =
@@ -130,9 +129,9 @@ module _ (s : List ℕ) (t : TopPlaces) (f : TopFound s t) where
 
   all_true : (a b c : Bool) → (a && b && c) ≡ true → (a ≡ true) × ((b ≡ true) × (c ≡ true))
   all_true true true true e = (refl, (refl, refl))
-  all_true true true false e = let z : ◌≡◌ {A = ℕ} 0 1 = cc in absurd (omega arith)
-  all_true true false c e = let z : ◌≡◌ {A = ℕ} 0 1 = cc in absurd (omega arith)
-  all_true false b c e = let z : ◌≡◌ {A = ℕ} 0 1 = cc in absurd (omega arith)
+  all_true true true false e = cc
+  all_true true false c e = cc
+  all_true false b c e = cc
 
   begun : shaped s t ≡ true → (begins s 0x7B t.global ≡ true) × ((begins s 0x5B t.captures ≡ true) × (begins s 0x5B t.annotations ≡ true))
   begun e = all_true _ _ _ e
@@ -199,9 +198,9 @@ module _ (s : List ℕ) (es : List Element) (m : List ℕ) (n : ℕ) where
   note_back : (r : AnnotationEntry) → note_of (note_numbers r) ≡ r
   unfolding stored_count
   note_back r = go r.count refl where
-    go : (c : Count) → r.count ≡ c → note_of (note_numbers r) ≡ r
-    go (C.Given x) e = rw e
-    go C.Absent e = rw e
+    go : (c : Option ℕ) → r.count ≡ c → note_of (note_numbers r) ≡ r
+    go (Some x) e = rw e
+    go None e = rw e
 
   notes_kept : EntriesKept K.Annotation s es m n → annotation_entries m n ≡ map (λ e. (read_annotation s e.at).entry) es
   unfolding note_at
@@ -212,10 +211,6 @@ module _ (s : List ℕ) (es : List Element) (m : List ℕ) (n : ℕ) where
       ∙ rows_back note_width note_of note_numbers (λ r. refl) note_back (map f es) (drop (note_width * n) m))
 
 -- ---- what was read
-pub scanned : (t : TopRead) (b low : ℕ) → b ≡ least t.global.low t.captures.low → low ≡ least b t.annotations.low
-    → record { low = low; globals = t.global.globals; captures = t.captures.count; annotations = t.annotations.count } ≡ scanned_of t
-scanned t b low eb el = rw (el, eb)
-
 module _ (s : List ℕ) (top : TopRead) (caps notes : List ℕ) (x : PartsRead s top caps notes)
     (f : TopFound s top.places) (e : shaped s top.places ≡ true) where
   lows_found : (scanned_of top).low ≡ parts_low s top.places

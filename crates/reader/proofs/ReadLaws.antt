@@ -3,7 +3,6 @@ use mathlib.Core.Path.{◌≡◌, refl, sym, ap, ◌∙◌}
 use mathlib.Core.Bool.{true, false}
 use mathlib.Core.List.{List}
 use Prim.Native.Nat.{ℕ, ◌≤◌, ◌+◌}
-use native.Mathlib.Omega.{arith}
 use lib.ListN.{length}
 use Rattle.json_blocks.specs.TextBytes.{byte, to}
 use Rattle.json_blocks.specs.declared.Cursor.{Cursor}
@@ -11,7 +10,7 @@ use Rattle.json_grammar.specs.ByPlace.{value_at}
 use Rattle.json_grammar.specs.Skip.{skip_value}
 use Rattle.sigmf_objects.specs.declared.GlobalFound.{GlobalFound}
 use Rattle.sigmf_objects.specs.Global.{read_global}
-use Rattle.reader.specs.declared.Kind.TheVariants as K
+use Rattle.reader.specs.Kind as K
 use Rattle.reader.specs.declared.TopName.TheVariants as N
 use Rattle.reader.specs.declared.TopPlaces.{TopPlaces}
 use Rattle.reader.specs.declared.TopRead.{TopRead}
@@ -51,7 +50,7 @@ parts_begin s top caps notes e = record {
 }
   where
     none : (b p : ℕ) → p ≡ 0 → begins s b p ≡ true → ⊥
-    none b p e h = let k : false ≡ true = begins_none s b p e ∙ h in let n : ◌≡◌ {A = ℕ} 0 1 = cc in omega arith
+    none b p e h = let k : false ≡ true = begins_none s b p e ∙ h in cc
 
 -- after one member more
 module _ (s : List ℕ) (at : ℕ) (top : TopRead) (caps notes : List ℕ) (x : PartsRead s top caps notes) where

@@ -1,20 +1,19 @@
 -- The lowest number of rules in stages, and the answers of `judge` and `read` from those of their stages.
-use mathlib.Core.Path.{◌≡◌, refl, sym, ap, subst, ◌∙◌}
+use Rattle.std.specs.Prelude.{Result, ⊤}
+use mathlib.Core.Path.{◌≡◌, refl, sym, ap, ◌∙◌}
 use mathlib.Core.Bool.{Bool, true, false, not, ◌||◌}
 use mathlib.Core.List.{List, [], ◌∷◌, ◌++◌}
-use Prim.Native.Nat.{ℕ, ◌≤◌, ◌<◌}
-use native.Mathlib.Omega.{arith}
+use Prim.Native.Nat.{ℕ, ◌≤◌}
 use lib.ListN.{length}
 use lib.Dec.{eqb, ltb}
-use borrow.Author.Tests.{eq-eqb, ne_eqb, lt-ltb, le-ltb, ltb-false}
-use Rattle.limits.specs.declared.Limits.{Limits}
-use Rattle.limits.specs.Limits.{metadata, dataset, channels, limits}
+use borrow.Author.Tests.{ne_eqb, ltb-false}
+use Rattle.limits.specs.Limits.{metadata, dataset, channels}
 use Rattle.refusals.specs.Refusals.{Rule, rule, lowest}
 use Rattle.refusals.proofs.RuleLaws.{rising, condition, unheld, skip, lowest_first, lowest_then}
 use Rattle.json_blocks.specs.TextBytes.{within}
 use Rattle.json_grammar.specs.ByPlace.{is_json}
 use Rattle.json_judge.specs.Judged.{judge_rules, refusal_of}
-use Rattle.json_judge.specs.declared.Judged.{Judged}
+use Rattle.json_judge.specs.declared.TextError.{TextError}
 use Rattle.sigmf_datatypes.specs.Datatypes.{is_listed}
 use Rattle.table.specs.Table.{no_table}
 use Rattle.reader_layout.specs.Layout.{Contents, sample_rules, too_many, layout_rules, layout_refusal, judged_layout, layout_answer, captures_after, annotations_after}
@@ -23,38 +22,21 @@ use Rattle.reader.specs.File.{file_of, contents_of}
 use Rattle.reader.specs.Reading.{bad_length, text_rules, part_rules, read_rules, contents, judged_recording, read_refusal, read_answer, captures_read, annotations_read}
 
 pub or_falses : (a b : Bool) → (a || b) ≡ false → (a ≡ false) × (b ≡ false)
-or_falses true b e = let z : ◌≡◌ {A = ℕ} 0 1 = cc in absurd (omega arith)
+or_falses true b e = cc
 or_falses false b e = (refl, e)
 
 not_false : (a : Bool) → not a ≡ false → a ≡ true
 not_false true e = refl
-not_false false e = let z : ◌≡◌ {A = ℕ} 0 1 = cc in absurd (omega arith)
+not_false false e = cc
 
 -- ---- 1 to 3
 module _ (s : List ℕ) (d : ℕ) where
-  pub bad_empty : length s ≡ 0 → true ≡ bad_length s d
-  unfolding bad_length
-  bad_empty h = rw (eq-eqb (length s) 0 h)
-
-  module _ (l : Limits) (q : l ≡ limits) (f : length s ≡ 0 → ⊥) where
-    pub bad_long : l.metadata < length s → true ≡ bad_length s d
-    unfolding bad_length
-    bad_long h =
-        let k : metadata < length s = subst (λ (x : ℕ). x < length s) (ap (λ (x : Limits). x.metadata) q) h in
-        rw (ne_eqb (length s) 0 f, lt-ltb metadata (length s) k)
-
-    pub bad_data : length s ≤ l.metadata → (r : Bool) → r ≡ ltb l.dataset d → r ≡ bad_length s d
-    unfolding bad_length
-    bad_data h r e =
-        let k : length s ≤ metadata = subst (λ (x : ℕ). length s ≤ x) (ap (λ (x : Limits). x.metadata) q) h in
-        rw (ne_eqb (length s) 0 f, le-ltb metadata (length s) k) (e ∙ ap (λ (x : Limits). ltb x.dataset d) q)
-
   module _ (r : Bool) (e : r ≡ bad_length s d) where
     pub text_bad : r ≡ true → 1 ≡ lowest (text_rules s d)
     unfolding lowest
     text_bad h = rw (sym e ∙ h)
 
-    pub text_judged : r ≡ false → (j : Judged) → refusal_of j ≡ lowest (judge_rules s) → refusal_of j ≡ lowest (text_rules s d)
+    pub text_judged : r ≡ false → (j : Result ⊤ TextError) → refusal_of j ≡ lowest (judge_rules s) → refusal_of j ≡ lowest (text_rules s d)
     unfolding lowest
     text_judged h j g = rw (sym e ∙ h) g
 

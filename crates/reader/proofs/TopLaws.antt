@@ -1,4 +1,5 @@
 -- The members of the top level, sought in one walk.
+use Rattle.std.specs.Prelude.{None, Some}
 use mathlib.Core.Path.{◌≡◌, refl, sym, ap, subst, ◌∙◌}
 use mathlib.Core.Bool.{Bool, true, false, cond}
 use mathlib.Core.List.{List, map}
@@ -16,8 +17,6 @@ use Rattle.json_names.specs.Same.{same}
 use Rattle.json_names.proofs.SameLaws.{same_is}
 use Rattle.json_walk.specs.declared.Member.{Member}
 use Rattle.json_walk.specs.declared.MemberName.{MemberName}
-use Rattle.json_walk.specs.declared.MemberStep.TheVariants as M
-use Rattle.json_walk.specs.declared.NameStep.TheVariants as S
 use Rattle.json_walk.specs.Members.{next_item, name_step, member_step, member_found}
 use Rattle.json_walk.proofs.WalkLaws.{member_unnamed, member_named}
 use Rattle.json_walk.proofs.StepLaws.{member_steps}
@@ -32,7 +31,7 @@ use Rattle.reader.specs.declared.TopName.{TopName}
 use Rattle.reader.specs.declared.TopName.TheVariants as N
 use Rattle.reader.specs.declared.TopPlaces.{TopPlaces}
 use Rattle.reader.specs.File.{top_at, named_from, is_object}
-use Rattle.reader.specs.Parts.{top_levels, WasPassed, top_name, no_places, places_with, MemberPlace, absent, present, TopFound, begins, shaped}
+use Rattle.reader.specs.Parts.{top_levels, WasPassed, top_name, no_places, places_with, MemberPlace, absent, present, TopFound, begins}
 
 -- ---- one name, sought from j on; p is the place of the value found so far
 pub record Sought (s n : List ℕ) (start j p : ℕ) : Type 0 where
@@ -45,7 +44,7 @@ module _ (s n : List ℕ) (start : ℕ) where
   sought_begin = record { value = none; placed = absent refl; left = refl }
 
   module _ (j p : ℕ) (x : Sought s n start j p) where
-    sought_on : (m : Member) (k end : ℕ) → member_step s j ≡ M.Found m k → MemberRead top_levels s end m k
+    sought_on : (m : Member) (k end : ℕ) → member_step s j ≡ Some (m, k) → MemberRead top_levels s end m k
         → (t : Bool) → t ≡ same (member_name s m) n → (q : ℕ) → q ≡ cond t m.value p → Sought s n start k q
     unfolding last_where
     sought_on m k end e r t h q g = rw g (go t h) where
@@ -64,7 +63,7 @@ module _ (s n : List ℕ) (start : ℕ) where
         left = ap (λ (b : Bool). named_from n (cond b (some (field_of s m).value) x.value) (fields_from s k)) h ∙ next;
       }
 
-    sought_end : member_step s j ≡ M.End → MemberPlace s p (named_from n none (fields_from s start))
+    sought_end : member_step s j ≡ None → MemberPlace s p (named_from n none (fields_from s start))
     unfolding last_where
     sought_end e = subst (MemberPlace s p) (ap (named_from n x.value) (sym (ap (map (field_of s)) (members_over s j e))) ∙ x.left) x.placed
 
@@ -88,7 +87,7 @@ module _ (s : List ℕ) (at start : ℕ) (ea : at ≡ top_at s) (es : start ≡ 
         annotations = sought_begin s (ascii "annotations") start;
       }
 
-  pub find_end : (j : ℕ) (t : TopPlaces) → Finding s start j t → name_step s j ≡ S.End → TopFound s t
+  pub find_end : (j : ℕ) (t : TopPlaces) → Finding s start j t → name_step s j ≡ None → TopFound s t
   find_end j t x e =
       let f : fields_from s start ≡ fields_at s (top_at s) = ap (fields_from s) es ∙ ap (λ (i : ℕ). fields_at s i) ea in
       let o = sym (member_unnamed s j e) in
@@ -97,27 +96,6 @@ module _ (s : List ℕ) (at start : ℕ) (ea : at ≡ top_at s) (es : start ≡ 
         captures = rw f at (sought_end s (ascii "captures") start j t.captures x.captures o);
         annotations = rw f at (sought_end s (ascii "annotations") start j t.annotations x.annotations o);
       }
-
--- which of them a name is
-module _ (w : List ℕ) where
-  module _ (t : Bool) (e : t ≡ same w (ascii "global")) where
-    pub name_global : t ≡ true → N.Global ≡ top_name w
-    unfolding top_name
-    name_global h = rw (← e, h)
-
-    module _ (n : t ≡ false) (u : Bool) (f : u ≡ same w (ascii "captures")) where
-      pub name_captures : u ≡ true → N.Captures ≡ top_name w
-      unfolding top_name
-      name_captures h = rw (← e, n, ← f, h)
-
-      module _ (m : u ≡ false) (v : Bool) (g : v ≡ same w (ascii "annotations")) where
-        pub name_annotations : v ≡ true → N.Annotations ≡ top_name w
-        unfolding top_name
-        name_annotations h = rw (← e, n, ← f, m, ← g, h)
-
-        pub name_other : v ≡ false → N.Other ≡ top_name w
-        unfolding top_name
-        name_other h = rw (← e, n, ← f, m, ← g, h)
 
 -- a name is at most one of the three
 apart : (w k l : List ℕ) → same k l ≡ false → same w k ≡ true → same w l ≡ false
@@ -143,14 +121,14 @@ places_told w at t =
     go false false true f g = refl
     go false false false f g = refl
 
-module _ (s : List ℕ) (start j : ℕ) (t : TopPlaces) (x : Finding s start j t) (n : MemberName) (e : name_step s j ≡ S.Found n) where
+module _ (s : List ℕ) (start j : ℕ) (t : TopPlaces) (x : Finding s start j t) (n : MemberName) (e : name_step s j ≡ Some n) where
   abbrev found : Member
   found = record { name = n.name; quote = n.quote; value = n.value; end = skip_value s n.value }
 
   abbrev next : ℕ
   next = next_item s (skip_value s n.value)
 
-  step : member_step s j ≡ M.Found found next
+  step : member_step s j ≡ Some (found, next)
   step = sym (member_named s j n e (skip_value s n.value) next refl refl)
 
   pub find_read : WasPassed s n.value
@@ -195,19 +173,7 @@ module _ (s : List ℕ) (b p : ℕ) where
   unfolding begins
   begins_other f =
       cond_elim (λ (t : Bool). t ≡ true → ⊥) (eqb p 0) _ _
-      (λ _ h. let n : ◌≡◌ {A = ℕ} 0 1 = cc in omega arith) (λ _ h. f (eqb-true (byte s p) b h))
+      (λ _ h. cc) (λ _ h. f (eqb-true (byte s p) b h))
 
 pub top_object : (s : List ℕ) (at : ℕ) → at ≡ top_at s → byte s at ≡ 0x7B → is_object s (top_at s) ≡ true
 top_object s at e b = eq-eqb (byte s (top_at s)) 0x7B (ap (byte s) (sym e) ∙ b)
-
--- ---- the three shapes, one after the other
-module _ (s : List ℕ) (t : TopPlaces) where
-  pub shape_none : begins s 0x7B t.global ≡ false → false ≡ shaped s t
-  shape_none e = rw e
-
-  module _ (e : begins s 0x7B t.global ≡ true) where
-    pub shape_one : begins s 0x5B t.captures ≡ false → false ≡ shaped s t
-    shape_one f = rw (e, f)
-
-    pub shape_two : begins s 0x5B t.captures ≡ true → begins s 0x5B t.annotations ≡ shaped s t
-    shape_two f = rw (e, f)

@@ -1,3 +1,4 @@
+pub mod Kind
 pub mod File
 pub mod Reading
 pub mod Parts

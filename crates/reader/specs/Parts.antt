@@ -17,8 +17,8 @@ use Rattle.sigmf_objects.specs.Fields.{Value, close_at}
 use Rattle.sigmf_objects.specs.Global.{read_global}
 use Rattle.sigmf_objects.specs.Capture.{read_capture}
 use Rattle.sigmf_objects.specs.Annotation.{read_annotation}
-use Rattle.reader.specs.declared.Kind.{Kind}
-use Rattle.reader.specs.declared.Kind.TheVariants as K
+use Rattle.reader.specs.Kind.{Kind}
+use Rattle.reader.specs.Kind as K
 use Rattle.reader.specs.declared.TopName.{TopName}
 use Rattle.reader.specs.declared.TopName.TheVariants as N
 use Rattle.reader.specs.declared.TopPlaces.{TopPlaces}
@@ -123,6 +123,10 @@ EntriesKept k s es m n = (n ≡ length es) × (take (entry_size k * n) m ≡ fla
 -- there is room for the entries of a text
 abbrev pub EntriesRoom : List ℕ → List ℕ → List ℕ → Type 0
 EntriesRoom s caps notes = (entry_size K.Capture * length s ≤ entry_bytes * length caps) × (entry_size K.Annotation * length s ≤ entry_bytes * length notes)
+
+-- the same, of memory for so many numbers
+abbrev pub HasRoom : List ℕ → ℕ → ℕ → Type 0
+HasRoom s caps notes = (entry_size K.Capture * length s ≤ entry_bytes * caps) × (entry_size K.Annotation * length s ≤ entry_bytes * notes)
 
 -- ---- what was read of the three parts: of one that has not its own shape, anything
 abbrev pub GlobalIs : List ℕ → ℕ → GlobalRead → Type 0

@@ -5,12 +5,11 @@ mod arrays;
 mod scan;
 mod top;
 
-ghost use Rattle.std.specs.Prelude.{◌≡◌, ◌≤◌, length};
+ghost use Rattle.std.specs.Prelude.{◌≡◌, ◌<◌, ◌^◌, length};
 ghost use Rattle.refusals.specs.Refusals.{lowest};
 ghost use Rattle.reader.specs.Reading.{bad_length, text_rules, judged_recording, read_answer, captures_read, annotations_read};
-ghost use Rattle.reader.specs.Parts.{short_text, EntriesRoom};
+ghost use Rattle.reader.specs.Parts.{HasRoom, EntriesRoom};
 
-use json_judge::Judged;
 use limits::Limits;
 use reader_layout::lay;
 use table::{AnnotationEntry, CaptureEntry, Globals, Summary, no_table};
@@ -21,13 +20,6 @@ pub(crate) struct TopPlaces {
     pub(crate) global: usize,
     pub(crate) captures: usize,
     pub(crate) annotations: usize,
-}
-
-// What an array holds.
-#[derive(Clone, Copy)]
-pub(crate) enum Kind {
-    Capture,
-    Annotation,
 }
 
 // The lowest number that an object gives cause for, 0 for none, and where its closing brace stands.
@@ -110,17 +102,11 @@ const ALL_CAPTURES: usize = Limits::METADATA / ENTRY_BYTES * CaptureEntry::WIDTH
 const ALL_ANNOTATIONS: usize = Limits::METADATA / ENTRY_BYTES * AnnotationEntry::WIDTH;
 
 // 1: the metadata is empty or too long, or the dataset is.
+#[tactic(auto, unfolding(crate::specs::Reading::bad_length))]
 fn is_bad_length(s: &[u8], d: u64) -> bool
     ensures { result ≡ bad_length s.now d }
 {
-    let limits = Limits::new();
-    if s.len() == 0 {
-        return true;
-    }
-    if s.len() > limits.metadata {
-        return true;
-    }
-    d > limits.dataset
+    s.is_empty() || s.len() > Limits::METADATA || d > Limits::DATASET
 }
 
 // 1 to 3.
@@ -130,11 +116,9 @@ fn text_refusal(s: &[u8], d: u64) -> u64
     if is_bad_length(s, d) {
         return 1;
     }
-    let j = json_judge::judge(s);
-    match j {
-        Judged::Good => 0,
-        Judged::NotJson => 2,
-        Judged::BadMembers => 3,
+    match json_judge::judge(s) {
+        Ok(()) => 0,
+        Err(e) => e.refusal(),
     }
 }
 
@@ -147,27 +131,21 @@ pub fn judge(s: &[u8], d: u64) -> Summary
         return no_table(n);
     }
     if s.len() <= SHORT {
-        return judge_short(s, d);
+        judge_in::<FEW_CAPTURES, FEW_ANNOTATIONS>(s, d)
+    } else {
+        judge_in::<ALL_CAPTURES, ALL_ANNOTATIONS>(s, d)
     }
-    judge_long(s, d)
 }
 
-fn judge_short(s: &[u8], d: u64) -> Summary
+// The same with memory for so many numbers of captures and of annotations.
+fn judge_in<const CAPTURES: usize, const ANNOTATIONS: usize>(s: &[u8], d: u64) -> Summary
     requires d_value { lowest (text_rules s.now d) ≡ 0 }
-    requires s_len_bound { length s.now ≤ short_text }
+    requires room { HasRoom s.now CAPTURES ANNOTATIONS }
+    requires sizes { (CAPTURES < 2 ^ 60) × (ANNOTATIONS < 2 ^ 60) }
     ensures { result ≡ judged_recording s.now d }
 {
-    let mut caps = [0u64; FEW_CAPTURES];
-    let mut notes = [0u64; FEW_ANNOTATIONS];
-    judge_with(s, d, &mut caps, &mut notes)
-}
-
-fn judge_long(s: &[u8], d: u64) -> Summary
-    requires { lowest (text_rules s.now d) ≡ 0 }
-    ensures { result ≡ judged_recording s.now d }
-{
-    let mut caps = [0u64; ALL_CAPTURES];
-    let mut notes = [0u64; ALL_ANNOTATIONS];
+    let mut caps = [0u64; CAPTURES];
+    let mut notes = [0u64; ANNOTATIONS];
     judge_with(s, d, &mut caps, &mut notes)
 }
 
@@ -180,8 +158,7 @@ fn judge_with(s: &[u8], d: u64, caps: &mut [u64], notes: &mut [u64]) -> Summary
     if x.low != 0 {
         return no_table(x.low);
     }
-    let g = x.globals;
-    reader_layout::summary(g, caps, x.captures, notes, x.annotations, d)
+    reader_layout::summary(x.globals, caps, x.captures, notes, x.annotations, d)
 }
 
 // A metadata file and the length of its dataset to a summary and rows, written to the front of rows and anns.
@@ -195,31 +172,28 @@ pub fn read(s: &[u8], d: u64, rows: &mut [u64], anns: &mut [u64]) -> Summary
         return no_table(n);
     }
     if s.len() <= SHORT {
-        return read_short(s, d, rows, anns);
+        read_in::<FEW_CAPTURES, FEW_ANNOTATIONS>(s, d, rows, anns)
+    } else {
+        read_in::<ALL_CAPTURES, ALL_ANNOTATIONS>(s, d, rows, anns)
     }
-    read_long(s, d, rows, anns)
 }
 
-fn read_short(s: &[u8], d: u64, rows: &mut [u64], anns: &mut [u64]) -> Summary
+// The same with memory for so many numbers of captures and of annotations.
+fn read_in<const CAPTURES: usize, const ANNOTATIONS: usize>(
+    s: &[u8],
+    d: u64,
+    rows: &mut [u64],
+    anns: &mut [u64],
+) -> Summary
     requires d_value { lowest (text_rules s.now d) ≡ 0 }
-    requires s_len_bound { length s.now ≤ short_text }
+    requires room { HasRoom s.now CAPTURES ANNOTATIONS }
+    requires sizes { (CAPTURES < 2 ^ 60) × (ANNOTATIONS < 2 ^ 60) }
     ensures answer { result ≡ read_answer s.now d rows.old anns.old }
     ensures captures { rows.new ≡ captures_read s.now d rows.old anns.old }
     ensures annotations { anns.new ≡ annotations_read s.now d rows.old anns.old }
 {
-    let mut caps = [0u64; FEW_CAPTURES];
-    let mut notes = [0u64; FEW_ANNOTATIONS];
-    read_with(s, d, &mut caps, &mut notes, rows, anns)
-}
-
-fn read_long(s: &[u8], d: u64, rows: &mut [u64], anns: &mut [u64]) -> Summary
-    requires { lowest (text_rules s.now d) ≡ 0 }
-    ensures answer { result ≡ read_answer s.now d rows.old anns.old }
-    ensures captures { rows.new ≡ captures_read s.now d rows.old anns.old }
-    ensures annotations { anns.new ≡ annotations_read s.now d rows.old anns.old }
-{
-    let mut caps = [0u64; ALL_CAPTURES];
-    let mut notes = [0u64; ALL_ANNOTATIONS];
+    let mut caps = [0u64; CAPTURES];
+    let mut notes = [0u64; ANNOTATIONS];
     read_with(s, d, &mut caps, &mut notes, rows, anns)
 }
 
@@ -241,6 +215,14 @@ fn read_with(
     if x.low != 0 {
         return no_table(x.low);
     }
-    let g = x.globals;
-    lay(g, caps, x.captures, notes, x.annotations, d, rows, anns)
+    lay(
+        x.globals,
+        caps,
+        x.captures,
+        notes,
+        x.annotations,
+        d,
+        rows,
+        anns,
+    )
 }

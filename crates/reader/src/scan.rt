@@ -16,17 +16,11 @@ use refusals::least;
 fn together(top: TopRead) -> Scanned
     ensures { result ≡ scanned_of top }
 {
-    let g = top.global;
-    let c = top.captures;
-    let a = top.annotations;
-    let both = least(g.low, c.low);
-    let low = least(both, a.low);
-    let globals = g.globals;
     Scanned {
-        low: low,
-        globals: globals,
-        captures: c.count,
-        annotations: a.count,
+        low: least(least(top.global.low, top.captures.low), top.annotations.low),
+        globals: top.global.globals,
+        captures: top.captures.count,
+        annotations: top.annotations.count,
     }
 }
 
@@ -48,16 +42,14 @@ pub(crate) fn scan(s: &[u8], caps: &mut [u64], notes: &mut [u64]) -> Scanned
     ensures low { result.low ≡ lowest (part_rules s.now (file_of s.now)) }
     ensures contents { result.low ≡ 0 → stored_contents result.globals caps.new result.captures notes.new result.annotations ≡ contents s.now }
 {
-    let c = Cursor { at: 0 }.skip_blanks(s);
-    let at = c.at;
-    let b = peek(s, at);
-    if b == b'{' {
-        let top = read_top(s, at, caps, notes);
-        let t = top.places;
-        if is_shaped(s, t) {
-            return together(top);
-        }
+    let at = Cursor { at: 0 }.skip_blanks(s).at;
+    if peek(s, at) != b'{' {
         return no_parts();
     }
-    no_parts()
+    let top = read_top(s, at, caps, notes);
+    if is_shaped(s, top.places) {
+        together(top)
+    } else {
+        no_parts()
+    }
 }

@@ -8,29 +8,29 @@ ghost use Rattle.reader.specs.File.{top_at};
 ghost use Rattle.reader.specs.Parts.{top_name, no_places, places_with, TopFound, begins, shaped};
 ghost use Rattle.reader.specs.Parts.{entry_bytes, WasPassed, entry_size, EntriesRoom, GlobalIs, ArrayIs, PartsRead};
 
-use crate::arrays::read_array;
-use crate::{ArrayRead, GlobalRead, Kind, TopName, TopPlaces, TopRead, TopStep};
+use crate::arrays::{Entry, read_array};
+use crate::{ArrayRead, GlobalRead, TopName, TopPlaces, TopRead, TopStep};
 use json_blocks::{Cursor, peek};
 use json_names::text_is;
-use json_walk::{NameStep, next_item, next_name, skip_value};
+use json_walk::{next_item, next_name, skip_value};
 use sigmf_objects::global::read_global;
 use sigmf_values::value::part_of;
-use table::{Globals, Place};
+use table::{AnnotationEntry, CaptureEntry, Globals, Place};
 
 // Which of the three names a raw one is.
+#[tactic(auto, unfolding(crate::specs::Parts::top_name))]
 fn top_name(name: &[u8]) -> TopName
     ensures { result ≡ top_name (name_text name.now) }
 {
     if text_is(name, 0, b"global") {
-        return TopName::Global;
+        TopName::Global
+    } else if text_is(name, 0, b"captures") {
+        TopName::Captures
+    } else if text_is(name, 0, b"annotations") {
+        TopName::Annotations
+    } else {
+        TopName::Other
     }
-    if text_is(name, 0, b"captures") {
-        return TopName::Captures;
-    }
-    if text_is(name, 0, b"annotations") {
-        return TopName::Annotations;
-    }
-    TopName::Other
 }
 
 pub(crate) fn no_globals() -> Globals {
@@ -77,41 +77,36 @@ fn read_globals(s: &[u8], at: usize) -> GlobalRead
     ensures globals { GlobalIs s.now at result }
     ensures end { result.end ≡ skip_value s.now at }
 {
-    let b = peek(s, at);
-    if b == b'{' {
-        let g = read_global(s, at);
-        let globals = g.globals;
+    if peek(s, at) != b'{' {
         return GlobalRead {
-            low: g.low,
-            globals: globals,
-            end: g.close + 1,
+            low: 4,
+            globals: no_globals(),
+            end: skip_value(s, at),
         };
     }
-    let e = skip_value(s, at);
+    let g = read_global(s, at);
     GlobalRead {
-        low: 4,
-        globals: no_globals(),
-        end: e,
+        low: g.low,
+        globals: g.globals,
+        end: g.close + 1,
     }
 }
 
 // The value of captures or annotations: 4 if it is no array.
-fn read_list(kind: Kind, s: &[u8], at: usize, out: &mut [u64]) -> ArrayRead
+fn read_list<E: Entry>(s: &[u8], at: usize, out: &mut [u64]) -> ArrayRead
     requires was_passed { WasPassed s.now at }
-    requires s_bound { entry_size kind * length s.now ≤ entry_bytes * length out.old }
-    ensures list { ArrayIs kind s.now at result out.new }
+    requires s_bound { entry_size E.kind * length s.now ≤ entry_bytes * length out.old }
+    ensures list { ArrayIs E.kind s.now at result out.new }
     ensures end { result.end ≡ skip_value s.now at }
 {
-    let b = peek(s, at);
-    if b == b'[' {
-        return read_array(kind, s, at, out);
+    if peek(s, at) != b'[' {
+        return ArrayRead {
+            low: 4,
+            count: 0,
+            end: skip_value(s, at),
+        };
     }
-    let e = skip_value(s, at);
-    ArrayRead {
-        low: 4,
-        count: 0,
-        end: e,
-    }
+    read_array::<E>(s, at, out)
 }
 
 // The value at a place of a member with a name.
@@ -139,20 +134,22 @@ fn read_part(
             TopStep { top: t, end: g.end }
         }
         TopName::Captures => {
-            let c = read_list(Kind::Capture, s, at, caps);
+            let c = read_list::<CaptureEntry>(s, at, caps);
             t.places.captures = at;
             t.captures = c;
             TopStep { top: t, end: c.end }
         }
         TopName::Annotations => {
-            let a = read_list(Kind::Annotation, s, at, notes);
+            let a = read_list::<AnnotationEntry>(s, at, notes);
             t.places.annotations = at;
             t.annotations = a;
             TopStep { top: t, end: a.end }
         }
         TopName::Other => {
-            let e = skip_value(s, at);
-            TopStep { top: t, end: e }
+            TopStep {
+                top: t,
+                end: skip_value(s, at),
+            }
         }
     }
 }
@@ -166,41 +163,28 @@ pub(crate) fn read_top(s: &[u8], at: usize, caps: &mut [u64], notes: &mut [u64])
     ensures found { TopFound s.now result.places }
     ensures parts { PartsRead s.now result caps.new notes.new }
 {
-    let c = Cursor { at: at + 1 }.skip_blanks(s);
-    let mut j = c.at;
+    let mut j = Cursor { at: at + 1 }.skip_blanks(s).at;
     let mut top = no_top();
-    loop {
-        let g = next_name(s, j);
-        let NameStep::Found(n) = g else {
-            return top;
-        };
+    while let Some(n) = next_name(s, j) {
         let name = part_of(s, n.name, n.quote);
-        let which = top_name(name);
-        let r = read_part(which, s, n.value, top, caps, notes);
+        let r = read_part(top_name(name), s, n.value, top, caps, notes);
         top = r.top;
         j = next_item(s, r.end);
     }
+    top
 }
 
 // The value at a place begins with a byte; none does at 0.
+#[tactic(auto, unfolding(crate::specs::Parts::begins))]
 fn is_begun(s: &[u8], b: u8, p: usize) -> bool
     ensures { result ≡ begins s.now b p }
 {
-    if p == 0 {
-        return false;
-    }
-    peek(s, p) == b
+    p != 0 && peek(s, p) == b
 }
 
 // 4: global is an object, captures and annotations are arrays.
 pub(crate) fn is_shaped(s: &[u8], t: TopPlaces) -> bool
     ensures { result ≡ shaped s.now t }
 {
-    if is_begun(s, b'{', t.global) {
-        if is_begun(s, b'[', t.captures) {
-            return is_begun(s, b'[', t.annotations);
-        }
-        return false;
-    }
-    false
+    is_begun(s, b'{', t.global) && is_begun(s, b'[', t.captures) && is_begun(s, b'[', t.annotations)
 }

@@ -1,26 +1,16 @@
 -- Laws of entries in flat memory.
-use Prim.Native.Nat.{ℕ, suc, ◌+◌, ◌-◌, ◌*◌, ◌/◌, ◌≤◌, ◌<◌}
+use Rattle.std.specs.Prelude.{None, Option}
+use Prim.Native.Nat.{ℕ, suc, ◌+◌, ◌*◌, ◌/◌, ◌≤◌, ◌<◌}
 use mathlib.Core.Path.{◌≡◌}
 use mathlib.Core.List.{List, [], ◌∷◌}
 use native.Mathlib.Omega.{arith}
 use native.Mathlib.Nat.{add-zero}
 use lib.ListN.{length, get_or, set}
 use lib.Seq.{sets-eq}
-use borrow.Author.Tests.{le-leb, lt-leb, eq-eqb, ne_eqb}
+use borrow.Author.Tests.{le-leb, lt-leb}
 use Rattle.table.specs.Memory.{put_row}
 use Rattle.table.proofs.RowLaws.{row_number, row_none}
-use Rattle.table.specs.declared.Count.{Count}
-use Rattle.table.specs.declared.Count.TheVariants as C
 use Rattle.reader_layout.specs.Entries.{entry_width, note_width, entry_at, stored_count, note_at}
-
--- ---- counts
-pub count_absent : (given n : ℕ) → given ≡ 0 → C.Absent ≡ stored_count given n
-unfolding stored_count
-count_absent given n e = rw (eq-eqb given 0 e)
-
-pub count_is : (given n : ℕ) → (given ≡ 0 → ⊥) → C.Given n ≡ stored_count given n
-unfolding stored_count
-count_is given n h = rw (ne_eqb given 0 h)
 
 -- ---- entries read and written
 module _ (m : List ℕ) (i : ℕ) where
@@ -34,14 +24,14 @@ module _ (m : List ℕ) (i : ℕ) where
   unfolding entry_at
   entry_out h = rw (row_none entry_width m i (omega arith))
 
-  pub note_in : i < length m / note_width → (c : Count) → c ≡ stored_count (get_or m (note_width * i + 1) 0) (get_or m (note_width * i + 2) 0)
+  pub note_in : i < length m / note_width → (c : Option ℕ) → c ≡ stored_count (get_or m (note_width * i + 1) 0) (get_or m (note_width * i + 2) 0)
       → record { start = get_or m (note_width * i) 0; count = c; texts = record { label = record { at = get_or m (note_width * i + 3) 0; len = get_or m (note_width * i + 4) 0 } } } ≡ note_at m i
   unfolding note_at
   note_in h c e =
       let g : note_width * i + note_width ≤ length m = omega arith in
       rw (e, row_number note_width m i 0 g (omega arith), row_number note_width m i 1 g (omega arith), row_number note_width m i 2 g (omega arith), row_number note_width m i 3 g (omega arith), row_number note_width m i 4 g (omega arith), add-zero (note_width * i))
 
-  pub note_out : length m / note_width ≤ i → record { start = 0; count = C.Absent; texts = record { label = record { at = 0; len = 0 } } } ≡ note_at m i
+  pub note_out : length m / note_width ≤ i → record { start = 0; count = None; texts = record { label = record { at = 0; len = 0 } } } ≡ note_at m i
   unfolding note_at stored_count
   note_out h = rw (row_none note_width m i (omega arith))
 

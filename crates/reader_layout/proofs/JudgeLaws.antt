@@ -2,7 +2,7 @@
 use Prim.Native.Nat.{ℕ, ◌+◌, ◌-◌, ◌*◌, ◌/◌, ◌%◌, ◌^◌, ◌≤◌, ◌<◌}
 use mathlib.Core.Path.{◌≡◌, refl, sym, ap, ◌∙◌}
 use mathlib.Core.Bool.{Bool, true, false, cond, not, ◌&&◌, ◌||◌, false≢true}
-use mathlib.Core.List.{List, [], ◌∷◌, ◌++◌, map}
+use mathlib.Core.List.{List, [], ◌∷◌, map}
 use native.Mathlib.Omega.{arith}
 use native.Mathlib.Nat.{div-add-mod'}
 use lib.ListN.{length}
@@ -10,7 +10,7 @@ use lib.Dec.{leb, ltb, eqb}
 use borrow.Author.Tests.{le-leb, lt-leb, ne_eqb, leb-true, ltb-false, eqb-true, not-false}
 use Rattle.limits.specs.Limits.{dataset, channels}
 use Rattle.json_blocks.specs.TextBytes.{within}
-use Rattle.refusals.specs.Refusals.{Rule, rule, lowest}
+use Rattle.refusals.specs.Refusals.{rule, lowest}
 use Rattle.refusals.proofs.RuleLaws.{rising, condition, unheld, lowest_first, lowest_then}
 use Rattle.sigmf_datatypes.specs.Datatypes.{is_listed, sample_bytes}
 use Rattle.sigmf_datatypes.proofs.Laws.{width_least}
@@ -20,7 +20,8 @@ use Rattle.table.specs.Rows.{capture_width, annotation_width, capture_numbers, a
 use Rattle.table.specs.Table.{no_table}
 use Rattle.table.proofs.Bools.{and_left, and_right}
 use Rattle.table.specs.declared.Globals.{Globals}
-use Rattle.reader_layout.specs.declared.Whole.{Whole}
+use Rattle.std.proofs.Common.{Some, None}
+use Rattle.std.proofs.lemmas.Option.{none-some, same_Some}
 use Rattle.reader_layout.specs.Layout.{Contents, width_in, headers_and_trailer, samples_in, end_index, unordered, not_whole, index_outside, summary_in, format_rules, sample_rules, layout_rules, too_many, judged_layout, layout_refusal, layout_answer, captures_after, annotations_after}
 use Rattle.table.specs.Samples.{capture_rows, annotation_row, ascending, all_entries, all_notes, header_sum}
 use Rattle.table.proofs.RowLaws.{rest_length}
@@ -63,13 +64,13 @@ module _ (g : Globals) (d n : ℕ) (e : n ≡ lowest (format_rules g d)) (z : n 
   width_some w q = omega (arith, width_is w q, format_of.wide)
 
 -- ---- 16
-whole_no : (b : Bool) (s : ℕ) (x : Whole) → x ≡ cond b (record { ok = false; samples = 0 }) (record { ok = true; samples = s }) → x.ok ≡ false → b ≡ true
-whole_no true s x e f = refl
-whole_no false s x e f = sym f ∙ ap (λ (y : Whole). y.ok) e
+whole_no : (b : Bool) (s : ℕ) → None ≡ cond b None (Some s) → b ≡ true
+whole_no true s e = refl
+whole_no false s e = absurd (none-some s e)
 
-whole_yes : (b : Bool) (s : ℕ) (x : Whole) → x ≡ cond b (record { ok = false; samples = 0 }) (record { ok = true; samples = s }) → x.ok ≡ true → (b ≡ false) × (x.samples ≡ s)
-whole_yes true s x e f = absurd (false≢true (sym (ap (λ (y : Whole). y.ok) e) ∙ f))
-whole_yes false s x e f = (refl, ap (λ (y : Whole). y.samples) e)
+whole_yes : (b : Bool) (s x : ℕ) → Some x ≡ cond b None (Some s) → (b ≡ false) × (x ≡ s)
+whole_yes true s x e = absurd (none-some x (sym e))
+whole_yes false s x e = (refl, same_Some x s e)
 
 -- ---- the answer without rows, stage by stage
 module _ (k : Contents) (d n : ℕ) (e : n ≡ lowest (format_rules k.globals d)) where
@@ -88,21 +89,21 @@ module _ (k : Contents) (d n : ℕ) (e : n ≡ lowest (format_rules k.globals d)
     unfolding judged_layout lowest
     judged_15 r q f = rw (late, f) q
 
-    module _ (f : b ≡ true) (w : ℕ) (v : w ≡ sample_bytes k.globals.datatype k.globals.channels) (x : Whole) (y : x ≡ whole_in (headers_and_trailer k) w d) where
-      same : x ≡ cond (not_whole k d) (record { ok = false; samples = 0 }) (record { ok = true; samples = samples_in k d })
+    module _ (f : b ≡ true) (w : ℕ) (v : w ≡ sample_bytes k.globals.datatype k.globals.channels) where
+      same : whole_in (headers_and_trailer k) w d ≡ cond (not_whole k d) None (Some (samples_in k d))
       unfolding not_whole samples_in
-      same = y ∙ ap (λ (a : ℕ). whole_in (headers_and_trailer k) a d) (width_is k.globals d n e z w v)
+      same = ap (λ (a : ℕ). whole_in (headers_and_trailer k) a d) (width_is k.globals d n e z w v)
 
-      pub judged_16 : (r : Summary) → r ≡ no_table 16 → x.ok ≡ false → r ≡ judged_layout k d
+      pub judged_16 : (r : Summary) → r ≡ no_table 16 → None ≡ whole_in (headers_and_trailer k) w d → r ≡ judged_layout k d
       unfolding judged_layout lowest
-      judged_16 r q g = rw (late, f, whole_no (not_whole k d) (samples_in k d) x same g) q
+      judged_16 r q g = rw (late, f, whole_no (not_whole k d) (samples_in k d) (g ∙ same)) q
 
-      module _ (g : x.ok ≡ true) (a : Bool) (s : a ≡ inside_ok k.globals.offset x.samples k.captures k.annotations) where
+      module _ (x : ℕ) (g : Some x ≡ whole_in (headers_and_trailer k) w d) (a : Bool) (s : a ≡ inside_ok k.globals.offset x k.captures k.annotations) where
         whole : not_whole k d ≡ false
-        whole = (whole_yes (not_whole k d) (samples_in k d) x same g).0
+        whole = (whole_yes (not_whole k d) (samples_in k d) x (g ∙ same)).0
 
-        many : x.samples ≡ samples_in k d
-        many = (whole_yes (not_whole k d) (samples_in k d) x same g).1
+        many : x ≡ samples_in k d
+        many = (whole_yes (not_whole k d) (samples_in k d) x (g ∙ same)).1
 
         outs : index_outside k d ≡ not a
         unfolding index_outside
@@ -112,7 +113,7 @@ module _ (k : Contents) (d n : ℕ) (e : n ≡ lowest (format_rules k.globals d)
         unfolding judged_layout lowest
         judged_17 r q h = rw (late, f, whole, outs, h) q
 
-        pub judged_0 : (r : Summary) (c m : ℕ) → r ≡ accepted_summary k.globals w x.samples d c m → a ≡ true → length k.captures ≡ c → length k.annotations ≡ m
+        pub judged_0 : (r : Summary) (c m : ℕ) → r ≡ accepted_summary k.globals w x d c m → a ≡ true → length k.captures ≡ c → length k.annotations ≡ m
             → r ≡ judged_layout k d
         unfolding judged_layout lowest summary_in
         judged_0 r c m q h i j = rw (late, f, whole, outs, h, i, j, ← many, ← width_is k.globals d n e z w v) q

@@ -1,4 +1,5 @@
 -- A recording that is laid out is a well-formed table, and its rows are read back.
+use Rattle.std.specs.Prelude.{None, Option, Some}
 use Prim.Native.Nat.{ℕ, ◌+◌, ◌-◌, ◌*◌, ◌≤◌}
 use mathlib.Core.Path.{◌≡◌, refl, sym, ap, ◌∙◌}
 use mathlib.Core.Bool.{Bool, true, false, cond}
@@ -19,8 +20,6 @@ use Rattle.table.proofs.RowLaws.{length_flat, captures_back, annotations_back}
 use Rattle.table.proofs.TableLaws.{Numbers, Formed, well_formed_lem}
 use Rattle.table.specs.declared.CaptureEntry.{CaptureEntry}
 use Rattle.table.specs.declared.AnnotationEntry.{AnnotationEntry}
-use Rattle.table.specs.declared.Count.{Count}
-use Rattle.table.specs.declared.Count.TheVariants as C
 use Rattle.reader_layout.specs.Layout.{Contents, width_in, samples_in, end_index, captures_in, annotations_in, summary_in, layout_rules, layout_refusal, layout_answer, captures_after, annotations_after}
 use Rattle.reader_layout.specs.Stages.{capture_starts, note_starts}
 use Rattle.reader_layout.specs.Claim.{entry_texts_ok, places_ok, LaidOut}
@@ -53,9 +52,9 @@ up_from o e (c ∷ t) u v =
     rw a (and_right (leb 0 c.start) (ascending_from c.start (capture_starts t)) u)
 
 -- ---- annotations
-end_late : (e s : ℕ) (c : Count) → s ≤ e → s ≤ note_end e s c
-end_late e s (C.Given n) h = omega arith
-end_late e s C.Absent h = h
+end_late : (e s : ℕ) (c : Option ℕ) → s ≤ e → s ≤ note_end e s c
+end_late e s (Some n) h = omega arith
+end_late e s None h = h
 
 notes_ok : (o e s : ℕ) (ns : List AnnotationEntry) → ascending_from s (note_starts ns) ≡ true → all_notes o e ns ≡ true → entry_texts_ok ns ≡ true
     → annotations_ok e s (map (annotation_row e) ns) ≡ true

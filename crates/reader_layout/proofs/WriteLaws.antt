@@ -18,7 +18,6 @@ use Rattle.table.proofs.RowLaws.{rest_at, rest_none, rest_length, length_flat}
 use Rattle.table.proofs.Filling.{Filling, fill_none, fill_row, fill_all}
 use Rattle.table.specs.declared.CaptureEntry.{CaptureEntry}
 use Rattle.table.specs.declared.AnnotationEntry.{AnnotationEntry}
-use Rattle.table.specs.declared.Count.TheVariants as C
 use Rattle.table.specs.Samples.{next_start, capture_rows, note_end, annotation_row, note_ok, all_entries, all_notes, header_sum}
 use Rattle.reader_layout.specs.Entries.{entry_at, note_at, capture_entries}
 use Rattle.reader_layout.proofs.StageLaws.{headers_at}
@@ -31,17 +30,6 @@ next_some l n i e x q lt = rw (rest_at (entry_at l) n i x q lt)
 pub next_none : (l : List ℕ) (n i e : ℕ) → n ≤ i → e ≡ next_start e (rest (entry_at l) n i)
 unfolding next_start
 next_none l n i e h = rw (rest_none (entry_at l) n i h)
-
-module _ (x : AnnotationEntry) (e : ℕ) where
-  pub end_absent : x.count ≡ C.Absent → e ≡ note_end e x.start x.count
-  end_absent z = rw z
-
-  module _ (c : ℕ) (z : x.count ≡ C.Given c) where
-    pub end_given : x.start + c ≡ note_end e x.start x.count
-    end_given = rw z
-
-    pub end_fits : note_end e x.start x.count ≤ e → Fits w64 e → Fits w64 (x.start + c)
-    end_fits h b = omega (arith, h, end_given)
 
 -- ---- F is all numbers of the rows of w numbers, i rows are written, L are the numbers left
 pub record Part (w : ℕ) (F m out : List ℕ) (i : ℕ) (L : List ℕ) : Type 0 where
@@ -69,13 +57,12 @@ rows_long o w e h [] = refl
 rows_long o w e h (c ∷ t) = ap suc (rows_long o w e (h + c.header) t)
 
 pub record Rowing (l : List ℕ) (n o w e : ℕ) (m out : List ℕ) (h i : ℕ) : Type 0 where
-  pub more : i ≤ n
   pub sum : h + header_sum (rest (entry_at l) n i) ≡ header_sum (capture_entries l n)
   pub good : all_entries o e (rest (entry_at l) n i) ≡ true
   pub part : Part capture_width (flat capture_numbers (capture_rows o w e 0 (capture_entries l n))) m out i (flat capture_numbers (capture_rows o w e h (rest (entry_at l) n i)))
 
 pub rows_begin : (l : List ℕ) (n o w e : ℕ) (m : List ℕ) → all_entries o e (capture_entries l n) ≡ true → Rowing l n o w e m m 0 0
-rows_begin l n o w e m g = record { more = omega arith; sum = omega arith; good = g; part = part_begin _ _ m }
+rows_begin l n o w e m g = record { sum = omega arith; good = g; part = part_begin _ _ m }
 
 module _ (l : List ℕ) (n o w e : ℕ) (m out : List ℕ) (h i : ℕ) (S : Rowing l n o w e m out h i) where
   pub rows_end : n ≤ i → out ≡ written (flat capture_numbers (capture_rows o w e 0 (capture_entries l n))) m
@@ -117,7 +104,6 @@ module _ (l : List ℕ) (n o w e : ℕ) (m out : List ℕ) (h i : ℕ) (S : Rowi
 
       pub row_on : (out' : List ℕ) → out' ≡ put_row capture_width out i (capture_numbers y) → Rowing l n o w e m out' (h + x.header) (i + 1)
       row_on out' z = record {
-        more = omega arith;
         sum = omega (arith, S.sum, headers_at l n i x q lt);
         good = and_right (leb o x.start && leb x.start e) _ split;
         part = part_row _ _ m out i _ S.part (capture_numbers y) _ first_row enough refl out' z;
@@ -129,12 +115,11 @@ map_long f [] = refl
 map_long f (x ∷ t) = ap suc (map_long f t)
 
 pub record Noting (l : List ℕ) (n o e : ℕ) (m out : List ℕ) (i : ℕ) : Type 0 where
-  pub more : i ≤ n
   pub good : all_notes o e (rest (note_at l) n i) ≡ true
   pub part : Part annotation_width (flat annotation_numbers (map (annotation_row e) (rest (note_at l) n 0))) m out i (flat annotation_numbers (map (annotation_row e) (rest (note_at l) n i)))
 
 pub notes_begin : (l : List ℕ) (n o e : ℕ) (m : List ℕ) → all_notes o e (rest (note_at l) n 0) ≡ true → Noting l n o e m m 0
-notes_begin l n o e m g = record { more = omega arith; good = g; part = part_begin _ _ m }
+notes_begin l n o e m g = record { good = g; part = part_begin _ _ m }
 
 module _ (l : List ℕ) (n o e : ℕ) (m out : List ℕ) (i : ℕ) (S : Noting l n o e m out i) where
   pub notes_end : n ≤ i → out ≡ written (flat annotation_numbers (map (annotation_row e) (rest (note_at l) n 0))) m
@@ -160,7 +145,6 @@ module _ (l : List ℕ) (n o e : ℕ) (m out : List ℕ) (i : ℕ) (S : Noting l
 
       pub note_on : (out' : List ℕ) → out' ≡ put_row annotation_width out i (annotation_numbers (record { start = x.start; end = end; texts = x.texts })) → Noting l n o e m out' (i + 1)
       note_on out' z = record {
-        more = omega arith;
         good = and_right (note_ok o e x) _ note_split;
         part = part_row _ _ m out i _ S.part (annotation_numbers (record { start = x.start; end = end; texts = x.texts })) _ first_note note_enough refl out' z;
       }

@@ -1,13 +1,11 @@
 -- What captures and annotations say, kept in flat memory: as the reader hands it to `lay`, and as contracts of layout have it.
-use Rattle.std.specs.Prelude.{ℕ, cond, List, [], ◌∷◌, get_or, eqb}
+use Rattle.std.specs.Prelude.{ℕ, cond, List, [], ◌∷◌, get_or, eqb, None, Option, Some}
 use Rattle.table.specs.Memory.{row}
 use Rattle.table.specs.Rows.{rest}
 use Rattle.reader_layout.specs.Layout.{Contents}
 use Rattle.table.specs.declared.Globals.{Globals}
 use Rattle.table.specs.declared.CaptureEntry.{CaptureEntry}
 use Rattle.table.specs.declared.AnnotationEntry.{AnnotationEntry}
-use Rattle.table.specs.declared.Count.{Count}
-use Rattle.table.specs.declared.Count.TheVariants as C
 
 abbrev pub entry_width : ℕ
 entry_width = 2
@@ -22,16 +20,16 @@ unfoldable pub entry_at : List ℕ → ℕ → CaptureEntry
 entry_at m i = capture_entry_of (row entry_width m i)
 
 -- whether a count is given, and the count
-abbrev pub count_given : Count → ℕ
-count_given (C.Given n) = 1
-count_given C.Absent = 0
+abbrev pub count_given : Option ℕ → ℕ
+count_given (Some n) = 1
+count_given None = 0
 
-abbrev pub count_number : Count → ℕ
-count_number (C.Given n) = n
-count_number C.Absent = 0
+abbrev pub count_number : Option ℕ → ℕ
+count_number (Some n) = n
+count_number None = 0
 
-unfoldable pub stored_count : ℕ → ℕ → Count
-stored_count given n = cond (eqb given 0) C.Absent (C.Given n)
+unfoldable pub stored_count : ℕ → ℕ → Option ℕ
+stored_count given n = cond (eqb given 0) None (Some n)
 
 abbrev pub note_width : ℕ
 note_width = 5

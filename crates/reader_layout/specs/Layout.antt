@@ -15,8 +15,6 @@ use Rattle.table.specs.Table.{no_table}
 use Rattle.table.specs.declared.Globals.{Globals}
 use Rattle.table.specs.declared.CaptureEntry.{CaptureEntry}
 use Rattle.table.specs.declared.AnnotationEntry.{AnnotationEntry}
-use Rattle.table.specs.declared.Count.{Count}
-use Rattle.table.specs.declared.Count.TheVariants as C
 
 -- what the metadata say of samples: the global object, each capture, each annotation
 pub record Contents : Type 0 where

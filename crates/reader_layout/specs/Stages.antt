@@ -1,10 +1,9 @@
 -- For the code: how it divides the rules of a layout.
-use Rattle.std.specs.Prelude.{ℕ, ◌+◌, ◌-◌, ◌*◌, ◌/◌, ◌%◌, ◌^◌, ◌≤◌, ◌<◌, ◌≡◌, Bool, true, false, cond, not, ◌&&◌, ◌||◌, List, [], ◌∷◌, map, length, leb, ltb, eqb}
+use Rattle.std.specs.Prelude.{ℕ, ◌+◌, ◌-◌, ◌*◌, ◌/◌, ◌%◌, ◌^◌, ◌≤◌, ◌<◌, ◌≡◌, Bool, true, cond, not, ◌&&◌, ◌||◌, List, map, length, leb, ltb, eqb, Option, Some, None}
 use Rattle.table.specs.declared.Summary.{Summary}
 use Rattle.table.specs.declared.Globals.{Globals}
 use Rattle.table.specs.declared.CaptureEntry.{CaptureEntry}
 use Rattle.table.specs.declared.AnnotationEntry.{AnnotationEntry}
-use Rattle.reader_layout.specs.declared.Whole.{Whole}
 use Rattle.table.specs.Memory.{written}
 use Rattle.table.specs.Rows.{capture_width, capture_numbers, annotation_width, flat}
 use Rattle.table.specs.Samples.{header_sum, capture_rows, all_entries, all_notes}
@@ -17,8 +16,8 @@ abbrev pub note_starts : List AnnotationEntry → List ℕ
 note_starts ns = map (λ a. a.start) ns
 
 -- 16: the whole samples, if x of the d bytes are taken
-abbrev pub whole_in : ℕ → ℕ → ℕ → Whole
-whole_in x w d = cond (ltb d x || not (eqb ((d - x) % w) 0)) (record { ok = false; samples = 0 }) (record { ok = true; samples = (d - x) / w })
+abbrev pub whole_in : ℕ → ℕ → ℕ → Option ℕ
+whole_in x w d = cond (ltb d x || not (eqb ((d - x) % w) 0)) None (Some ((d - x) / w))
 
 -- 17: of n samples from o on
 abbrev pub inside_ok : ℕ → ℕ → List CaptureEntry → List AnnotationEntry → Bool

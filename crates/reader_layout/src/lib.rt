@@ -1,6 +1,8 @@
 // Where the samples of a recording lie, from the numbers of its metadata and the length of its dataset: refusals 15 to 17, rows, summary.
 #![tactic(auto)]
 
+mod entries;
+
 ghost use Rattle.std.specs.Prelude.{◌≡◌, true, ◌&&◌, ℕ, ◌+◌, ◌-◌, ◌*◌, ◌^◌, ◌<◌, ◌≤◌, min, leb, length, map};
 ghost use Rattle.limits.specs.Limits.{dataset};
 ghost use Rattle.refusals.specs.Refusals.{lowest};
@@ -11,18 +13,11 @@ ghost use Rattle.table.specs.Samples.{next_start, capture_rows, note_end, annota
 ghost use Rattle.reader_layout.specs.Entries.{entry_width, entry_numbers, entry_at, count_given, count_number, stored_count, note_width, note_numbers, note_at, capture_entries, annotation_entries, stored_contents};
 ghost use Rattle.reader_layout.specs.Stages.{capture_starts, note_starts, whole_in, inside_ok, accepted_summary, CapturesFit, captures_written, AnnotationsFit};
 
+use entries::{ascend, lie_inside};
 use limits::Limits;
 use table::{
-    Annotation, AnnotationEntry, Capture, CaptureEntry, Count, Globals, Place, Summary, Texts,
-    no_table,
+    Annotation, AnnotationEntry, Capture, CaptureEntry, Globals, Place, Summary, Texts, no_table,
 };
-
-// The samples that a dataset holds, if they are whole.
-#[derive(Clone, Copy)]
-struct Whole {
-    ok: bool,
-    samples: u64,
-}
 
 // Capture entry i; zeros if the memory has no whole entry i.
 pub fn entry_at(m: &[u64], i: usize) -> CaptureEntry
@@ -53,33 +48,25 @@ pub fn put_entry(out: &mut [u64], i: usize, e: CaptureEntry)
 }
 
 // A count from flat memory.
-fn count_of(given: u64, n: u64) -> Count
+#[tactic(auto, unfolding(crate::specs::Entries::stored_count))]
+fn count_of(given: u64, n: u64) -> Option<u64>
     ensures { result ≡ stored_count given n }
 {
-    if given == 0 {
-        return Count::Absent;
-    }
-    Count::Given(n)
+    (given != 0).then_some(n)
 }
 
 // 1 if a count is given.
-fn count_given(c: Count) -> u64
+fn count_given(c: Option<u64>) -> u64
     ensures { result ≡ count_given c }
 {
-    let Count::Given(n) = c else {
-        return 0;
-    };
-    1
+    u64::from(c.is_some())
 }
 
 // The count, 0 if it is absent.
-fn count_number(c: Count) -> u64
+fn count_number(c: Option<u64>) -> u64
     ensures { result ≡ count_number c }
 {
-    let Count::Given(n) = c else {
-        return 0;
-    };
-    n
+    c.unwrap_or(0)
 }
 
 // Annotation entry i; zeros if the memory has no whole entry i.
@@ -91,7 +78,7 @@ pub fn note_at(m: &[u64], i: usize) -> AnnotationEntry
         let count = count_of(m[p + 1], m[p + 2]);
         return AnnotationEntry {
             start: m[p],
-            count: count,
+            count,
             texts: Texts {
                 label: Place {
                     at: m[p + 3],
@@ -102,7 +89,7 @@ pub fn note_at(m: &[u64], i: usize) -> AnnotationEntry
     }
     AnnotationEntry {
         start: 0,
-        count: Count::Absent,
+        count: None,
         texts: Texts {
             label: Place { at: 0, len: 0 },
         },
@@ -127,185 +114,68 @@ pub fn put_note(out: &mut [u64], i: usize, e: AnnotationEntry)
 }
 
 // 1, 9 and 10, as far as they speak of these numbers.
+#[tactic(auto, unfolding(refusals::specs::Refusals::lowest, json_blocks::specs::TextBytes::within))]
 fn format_refusal(g: Globals, d: u64) -> u64
     ensures { result ≡ lowest (format_rules g d) }
 {
     if d > Limits::DATASET {
         return 1;
     }
-    if sigmf_datatypes::is_listed(g.datatype) {
-        if g.channels < 1 {
-            return 10;
-        }
-        if g.channels > Limits::CHANNELS {
-            return 10;
-        }
-        return 0;
+    if !sigmf_datatypes::is_listed(g.datatype) {
+        return 9;
     }
-    9
-}
-
-// The n captures ascend by start.
-fn captures_ascend(caps: &[u64], n: usize) -> bool
-    ensures { result ≡ ascending (capture_starts (capture_entries caps.now n)) }
-{
-    let mut s: u64 = 0;
-    let mut i: usize = 0;
-    while i < n {
-        let x = entry_at(caps, i);
-        if x.start < s {
-            return false;
-        }
-        s = x.start;
-        i += 1;
+    if g.channels < 1 || g.channels > Limits::CHANNELS {
+        return 10;
     }
-    true
-}
-
-// The m annotations ascend by start.
-fn annotations_ascend(notes: &[u64], m: usize) -> bool
-    ensures { result ≡ ascending (note_starts (annotation_entries notes.now m)) }
-{
-    let mut s: u64 = 0;
-    let mut i: usize = 0;
-    while i < m {
-        let x = note_at(notes, i);
-        if x.start < s {
-            return false;
-        }
-        s = x.start;
-        i += 1;
-    }
-    true
+    0
 }
 
 // 15: captures and annotations ascend by start.
 fn in_order(caps: &[u64], n: usize, notes: &[u64], m: usize) -> bool
     ensures { result ≡ ascending (capture_starts (capture_entries caps.now n)) && ascending (note_starts (annotation_entries notes.now m)) }
 {
-    if captures_ascend(caps, n) {
-        return annotations_ascend(notes, m);
-    }
-    false
+    ascend::<CaptureEntry>(caps, n) && ascend::<AnnotationEntry>(notes, m)
 }
 
 // The header bytes of n captures, but `most` at most.
 fn header_sum(caps: &[u64], n: usize, most: u64) -> u64
     ensures { result ≡ min most (header_sum (capture_entries caps.now n)) }
 {
-    let mut h: u64 = 0;
-    let mut i: usize = 0;
-    while i < n {
+    let mut h = 0;
+    for i in 0..n {
         let x = entry_at(caps, i);
         if x.header >= most - h {
             return most;
         }
         h += x.header;
-        i += 1;
     }
     h
 }
 
 // 16: what trailer and headers leave of d bytes is whole samples of w bytes.
-fn whole_samples(caps: &[u64], n: usize, trailing: u64, w: u64, d: u64) -> Whole
+fn whole_samples(caps: &[u64], n: usize, trailing: u64, w: u64, d: u64) -> Option<u64>
     requires { (1 ≤ w) × (d ≤ dataset) }
     ensures { result ≡ whole_in (trailing + header_sum (capture_entries caps.now n)) w d }
 {
-    if trailing > d {
-        return Whole {
-            ok: false,
-            samples: 0,
-        };
-    }
-    let left = d - trailing;
-    let h = header_sum(caps, n, left + 1);
-    if h > left {
-        return Whole {
-            ok: false,
-            samples: 0,
-        };
-    }
-    if (left - h) % w != 0 {
-        return Whole {
-            ok: false,
-            samples: 0,
-        };
-    }
-    Whole {
-        ok: true,
-        samples: (left - h) / w,
-    }
-}
-
-// The n captures start from o to e.
-fn entries_inside(caps: &[u64], n: usize, o: u64, e: u64) -> bool
-    ensures { result ≡ all_entries o e (capture_entries caps.now n) }
-{
-    let mut i: usize = 0;
-    while i < n {
-        let x = entry_at(caps, i);
-        if x.start < o {
-            return false;
-        }
-        if x.start > e {
-            return false;
-        }
-        i += 1;
-    }
-    true
-}
-
-// An annotation starts from o to e, and ends at e at most.
-fn note_ok(x: AnnotationEntry, o: u64, e: u64) -> bool
-    ensures { result ≡ note_ok o e x }
-{
-    if x.start < o {
-        return false;
-    }
-    if x.start > e {
-        return false;
-    }
-    let count = x.count;
-    let Count::Given(c) = count else {
-        return true;
-    };
-    c <= e - x.start
-}
-
-// The m annotations lie from o to e.
-fn notes_inside(notes: &[u64], m: usize, o: u64, e: u64) -> bool
-    ensures { result ≡ all_notes o e (annotation_entries notes.now m) }
-{
-    let mut i: usize = 0;
-    while i < m {
-        let x = note_at(notes, i);
-        if note_ok(x, o, e) {
-            i += 1;
-        } else {
-            return false;
-        }
-    }
-    true
+    let left = d.checked_sub(trailing)?;
+    let rest = left.checked_sub(header_sum(caps, n, left + 1))?;
+    (rest % w == 0).then_some(rest / w)
 }
 
 // 17: the end index is a u64, and captures and annotations lie inside s samples from o on.
+#[tactic(auto, using(crate::proofs::StageLaws::entries_inside, crate::proofs::StageLaws::notes_inside))]
 fn all_inside(caps: &[u64], n: usize, notes: &[u64], m: usize, o: u64, s: u64) -> bool
     ensures { result ≡ inside_ok o s (capture_entries caps.now n) (annotation_entries notes.now m) }
 {
-    if s > u64::MAX - o {
-        return false;
-    }
-    if entries_inside(caps, n, o, o + s) {
-        return notes_inside(notes, m, o, o + s);
-    }
-    false
+    s <= u64::MAX - o
+        && lie_inside::<CaptureEntry>(caps, n, o, o + s)
+        && lie_inside::<AnnotationEntry>(notes, m, o, o + s)
 }
 
 // The summary of s samples of w bytes, with n captures and m annotations.
 fn a_table(g: Globals, w: u64, s: u64, d: u64, n: usize, m: usize) -> Summary
     ensures { result ≡ accepted_summary g w s d n m }
 {
-    let rate = g.rate;
     Summary {
         refusal: 0,
         datatype: g.datatype,
@@ -317,7 +187,7 @@ fn a_table(g: Globals, w: u64, s: u64, d: u64, n: usize, m: usize) -> Summary
         size: d,
         captures: n as u64,
         annotations: m as u64,
-        rate: rate,
+        rate: g.rate,
     }
 }
 
@@ -329,29 +199,24 @@ pub fn summary(g: Globals, caps: &[u64], n: usize, notes: &[u64], m: usize, d: u
     if early != 0 {
         return no_table(early);
     }
-    if in_order(caps, n, notes, m) {
-        let w = sigmf_datatypes::sample_bytes(g.datatype, g.channels);
-        let x = whole_samples(caps, n, g.trailing, w, d);
-        if x.ok {
-            if all_inside(caps, n, notes, m, g.offset, x.samples) {
-                return a_table(g, w, x.samples, d, n, m);
-            }
-            return no_table(17);
-        }
-        return no_table(16);
+    if !in_order(caps, n, notes, m) {
+        return no_table(15);
     }
-    no_table(15)
+    let w = sigmf_datatypes::sample_bytes(g.datatype, g.channels);
+    let Some(samples) = whole_samples(caps, n, g.trailing, w, d) else {
+        return no_table(16);
+    };
+    if !all_inside(caps, n, notes, m, g.offset, samples) {
+        return no_table(17);
+    }
+    a_table(g, w, samples, d, n, m)
 }
 
 // Where capture entry i starts, or e past the last entry.
 fn next_start(caps: &[u64], n: usize, i: usize, e: u64) -> u64
     ensures { result ≡ next_start e (rest (entry_at caps.now) n i) }
 {
-    if i < n {
-        let y = entry_at(caps, i);
-        return y.start;
-    }
-    e
+    if i < n { entry_at(caps, i).start } else { e }
 }
 
 // The row of a capture that ends at end, with h header bytes up to and including its own.
@@ -361,7 +226,7 @@ fn capture_row(x: CaptureEntry, o: u64, w: u64, h: u64, end: u64) -> Capture
 {
     Capture {
         start: x.start,
-        end: end,
+        end,
         first: (x.start - o) * w + h,
         header: x.header,
     }
@@ -374,17 +239,13 @@ fn write_captures(t: Summary, caps: &[u64], out: &mut [u64])
 {
     let n = t.captures as usize;
     let o = t.offset;
-    let w = t.width;
     let e = o + t.samples;
-    let mut h: u64 = 0;
-    let mut i: usize = 0;
-    while i < n {
+    let mut h = 0;
+    for i in 0..n {
         let x = entry_at(caps, i);
         let end = next_start(caps, n, i + 1, e);
         h += x.header;
-        let y = capture_row(x, o, w, h, end);
-        table::put_capture(out, i, y);
-        i += 1;
+        table::put_capture(out, i, capture_row(x, o, t.width, h, end));
     }
 }
 
@@ -393,11 +254,10 @@ fn note_end(x: AnnotationEntry, e: u64) -> u64
     requires { note_end e x.start x.count ≤ e }
     ensures { result ≡ note_end e x.start x.count }
 {
-    let count = x.count;
-    let Count::Given(c) = count else {
-        return e;
-    };
-    x.start + c
+    match x.count {
+        Some(c) => x.start + c,
+        None => e,
+    }
 }
 
 // The rows of the annotations of a recording, written to the front of out, which has room.
@@ -405,21 +265,15 @@ fn write_annotations(t: Summary, notes: &[u64], out: &mut [u64])
     requires { AnnotationsFit t (annotation_entries notes.now t.annotations) out.old }
     ensures { out.new ≡ written (flat annotation_numbers (map (annotation_row (t.offset + t.samples)) (annotation_entries notes.now t.annotations))) out.old }
 {
-    let m = t.annotations as usize;
-    let o = t.offset;
-    let e = o + t.samples;
-    let mut i: usize = 0;
-    while i < m {
+    let e = t.offset + t.samples;
+    for i in 0..t.annotations as usize {
         let x = note_at(notes, i);
-        let end = note_end(x, e);
-        let texts = x.texts;
         let y = Annotation {
             start: x.start,
-            end: end,
-            texts: texts,
+            end: note_end(x, e),
+            texts: x.texts,
         };
         table::put_annotation(out, i, y);
-        i += 1;
     }
 }
 

@@ -4,17 +4,9 @@
 ghost use Rattle.std.specs.Prelude.{◌≡◌};
 ghost use Rattle.refusals.specs.Refusals.{least};
 
+#[tactic(auto, unfolding(crate::specs::Refusals::least))]
 pub fn least(a: u64, b: u64) -> u64
     ensures { result ≡ least a b }
 {
-    if a == 0 {
-        return b;
-    }
-    if b == 0 {
-        return a;
-    }
-    if a <= b {
-        return a;
-    }
-    b
+    if a == 0 || (b != 0 && b < a) { b } else { a }
 }

@@ -1,22 +1,20 @@
 -- Laws of the table of datatypes, each a test computed over its rows.
 use Prim.Native.Nat.{ℕ, zero, suc, ◌*◌, ◌≤◌, ◌<◌}
-use mathlib.Core.Path.{◌≡◌, refl, sym, ap, ◌∙◌}
-use mathlib.Core.Bool.{Bool, true, false, cond}
+use mathlib.Core.Path.{◌≡◌, refl}
+use mathlib.Core.Bool.{Bool, true, false}
 use mathlib.Core.List.{List, [], ◌∷◌}
 use native.Mathlib.Omega.{arith}
 use native.Mathlib.Nat.{mul-le-mul, mul-pos}
 use native.Mathlib.Decide.{dec_le}
 use mir.Syntax.{w64}
 use mir.Val.{Fits}
-use lib.ListN.{length, get_or, get_or-eq_default, get_or-append}
-use lib.Dec.{leb, ltb}
-use borrow.Author.Tests.{le-ltb, lt-ltb, le-leb, lt-leb, leb-true, ltb-true}
+use lib.ListN.{length, get_or, get_or-eq_default}
+use lib.Dec.{leb}
+use borrow.Author.Tests.{le-ltb, lt-ltb, leb-true, ltb-true}
 use Rattle.limits.specs.Limits.{channels}
 use Rattle.json_blocks.specs.Lists.{all}
 use Rattle.json_blocks.proofs.BlockLaws.{and_left, and_right}
-use Rattle.sigmf_datatypes.specs.declared.Entry.{Entry}
-use Rattle.sigmf_datatypes.specs.Datatypes.{Datatype, datatypes, twelve, is_listed, datatype_of, datatype_name, no_datatype, zero_filled, channel_bytes, width_of, sample_bytes}
-use Rattle.sigmf_datatypes.specs.Entry.{entry_of}
+use Rattle.sigmf_datatypes.specs.Datatypes.{Datatype, datatypes, twelve, is_listed, datatype_of, datatype_name, no_datatype, channel_bytes, width_of}
 
 -- a test that passes at every item passes at item k
 pub all_at_lem : {A : Type 0} (f : A → Bool) (xs : List A) (k : ℕ) (z : A) → all f xs ≡ true → k < length xs → f (get_or xs k z) ≡ true
@@ -72,23 +70,6 @@ module _ (c : ℕ) where
   unfolding is_listed
   is_listed_lem h = rw (← counted) (lt-ltb _ _ h)
 
-  pub width_none : (n : ℕ) → is_listed c ≡ false → 0 ≡ sample_bytes c n
-  unfolding sample_bytes
-  width_none n e = rw e
-
-  module _ (e : is_listed c ≡ true) where
-    pub width_zero : (n : ℕ) → n < 1 → 0 ≡ sample_bytes c n
-    unfolding sample_bytes
-    width_zero n h = rw (e, lt-leb _ _ h)
-
-    pub width_many : (n : ℕ) → 1 ≤ n → channels < n → 0 ≡ sample_bytes c n
-    unfolding sample_bytes
-    width_many n h k = rw (e, le-leb _ _ h, lt-leb _ _ k)
-
-    pub width_is : (n u : ℕ) → u ≡ channel_bytes (datatype_of c) → 1 ≤ n → n ≤ channels → u * n ≡ sample_bytes c n
-    unfolding sample_bytes width_of
-    width_is n u q h k = rw (q, e, le-leb _ _ h, le-leb _ _ k)
-
 -- W is a number of 64 bits
 pub width_fits : (c n u : ℕ) → u ≡ channel_bytes (datatype_of c) → n ≤ channels → Fits w64 (u * n)
 unfolding width_of
@@ -97,38 +78,15 @@ width_fits c n u e h = rw e (omega (arith, width_most c n h))
 -- ---- the code's table
 
 -- a code past the list's end has the empty row
-pub entry_none : (c : ℕ) → count ≤ c → entry_of no_datatype ≡ entry_of (datatype_of c)
+pub entry_none : (c : ℕ) → count ≤ c → datatype_of c ≡ no_datatype
 unfolding datatype_of
-entry_none c h = ap entry_of (sym (get_or-eq_default datatypes no_datatype (rw (← counted) h)))
+entry_none c h = get_or-eq_default datatypes no_datatype (rw (← counted) h)
 
--- names fit the entries
+-- no name has more than 8 bytes, and no component
 pub name_most : (c : ℕ) → length (datatype_name c) ≤ 8
 unfolding datatypes twelve all
 name_most c = leb-true (length (datatype_name c)) 8 (at_every (λ (d : Datatype). leb (length d.name) 8) refl refl c)
 
-module _ (d : Entry) (c : ℕ) (e : d ≡ entry_of (datatype_of c)) where
-  pub entry_name : d.name ≡ zero_filled (datatype_name c)
-  entry_name = ap (λ (x : Entry). x.name) e
-
-  pub entry_chars : d.chars ≡ length (datatype_name c)
-  entry_chars = ap (λ (x : Entry). x.chars) e
-
-  pub entry_inside : (i : ℕ) → i < d.chars → i < 8
-  entry_inside i h = omega (arith, entry_chars, name_most c)
-
-  pub entry_byte : (i : ℕ) → i < d.chars → get_or d.name i 0 ≡ get_or (datatype_name c) i 0
-  entry_byte i h = ap (λ (x : Entry). get_or x.name i 0) e ∙ get_or-append (datatype_name c) _ 0 i (omega (arith, entry_chars))
-
-  pub entry_past : (i : ℕ) → d.chars ≤ i → 0 ≡ get_or (datatype_name c) i 0
-  entry_past i h = sym (get_or-eq_default (datatype_name c) 0 (omega (arith, entry_chars)))
-
-  same_unit : d.bytes * cond d.complex 2 1 ≡ channel_bytes (datatype_of c)
-  same_unit = ap (λ (x : Entry). x.bytes * cond x.complex 2 1) e
-
-  pub entry_complex : d.complex ≡ true → d.bytes * 2 ≡ channel_bytes (datatype_of c)
-  entry_complex h = rw h at same_unit
-
-  pub entry_real : d.complex ≡ false → d.bytes ≡ channel_bytes (datatype_of c)
-  entry_real h =
-      let q : d.bytes * 1 ≡ channel_bytes (datatype_of c) = rw h at same_unit in
-      omega arith
+pub component_most : (c : ℕ) → (datatype_of c).bytes ≤ 8
+unfolding datatypes twelve all
+component_most c = leb-true (datatype_of c).bytes 8 (at_every (λ (d : Datatype). leb d.bytes 8) refl refl c)

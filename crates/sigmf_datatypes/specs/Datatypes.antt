@@ -1,5 +1,5 @@
 -- Document 01, "Fields", the line on datatypes, with request P4's; and the first sentence of "Where samples lie".
-use Rattle.std.specs.Prelude.{ℕ, zero, suc, ◌*◌, ◌-◌, Bool, true, false, ◌&&◌, cond, List, [], ◌∷◌, ◌++◌, length, get_or, replicate, leb, ltb}
+use Rattle.std.specs.Prelude.{ℕ, ◌*◌, ◌-◌, Bool, true, false, ◌&&◌, cond, List, [], ◌∷◌, ◌++◌, length, get_or, replicate, leb, ltb}
 use Prim.Native.String.{String}
 use Rattle.limits.specs.Limits.{channels}
 use Rattle.json_blocks.specs.TextBytes.{ascii}

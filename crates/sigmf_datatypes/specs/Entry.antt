@@ -1,7 +1,9 @@
 -- For the code: a row of the table as the code holds it.
-use Rattle.std.specs.Prelude.{length}
+use Rattle.std.specs.Prelude.{◌≡◌}
 use Rattle.sigmf_datatypes.specs.declared.Entry.{Entry}
-use Rattle.sigmf_datatypes.specs.Datatypes.{Datatype, zero_filled}
+use Rattle.sigmf_datatypes.specs.Datatypes.{Datatype}
 
-abbrev pub entry_of : Datatype → Entry
-entry_of d = record { name = zero_filled d.name; chars = length d.name; bytes = d.bytes; complex = d.complex }
+pub record EntryOf (e : Entry) (d : Datatype) : Type 0 where
+  pub name : e.name.now ≡ d.name
+  pub bytes : e.bytes ≡ d.bytes
+  pub complex : e.complex ≡ d.complex

@@ -1,38 +1,31 @@
 -- For the code: what its steps answer, and a date and a time of day whose bytes stand for themselves.
-use Rattle.std.specs.Prelude.{Bool, ◌&&◌, List, ℕ, ◌+◌, ◌*◌, ◌-◌, length, eqb, leb}
-use Rattle.std.proofs.Math.Option.{Option, none, some}
+use Rattle.json_strings.specs.declared.Position.{Position}
+use Rattle.std.specs.Prelude.{Bool, ◌&&◌, List, ℕ, ◌+◌, ◌*◌, ◌-◌, length, eqb, leb, None, Option, Some}
+use Rattle.std.proofs.Math.Option.{Option as Maybe, none, some}
 use Rattle.json_blocks.specs.TextBytes.{byte}
 use Rattle.json_tokens.specs.Number.{digit}
 use Rattle.json_strings.specs.Stream.{stream}
 use Rattle.sigmf_datetimes.specs.declared.Date.{Date}
 use Rattle.sigmf_datetimes.specs.declared.Clock.{Clock}
-use Rattle.sigmf_datetimes.specs.declared.Pair.{Pair}
-use Rattle.sigmf_datetimes.specs.declared.Pair.TheVariants as P
-use Rattle.sigmf_datetimes.specs.declared.DateRead.{DateRead}
-use Rattle.sigmf_datetimes.specs.declared.DateRead.TheVariants as D
-use Rattle.sigmf_datetimes.specs.declared.ClockRead.{ClockRead}
-use Rattle.sigmf_datetimes.specs.declared.ClockRead.TheVariants as C
-use Rattle.sigmf_datetimes.specs.declared.Fraction.{Fraction}
-use Rattle.sigmf_datetimes.specs.declared.Fraction.TheVariants as F
 use Rattle.sigmf_datetimes.specs.Datetimes.{Got, got, bad, leading_digits}
 
 -- ---- what answers say of a text s
-abbrev pub pair_says : List ℕ → Pair → Got ℕ
-pair_says s (P.Value n p) = got n (stream s p)
-pair_says s P.Bad = bad
+abbrev pub pair_says : List ℕ → Option (ℕ × Position) → Got ℕ
+pair_says s (Some (n, p)) = got n (stream s p)
+pair_says s None = bad
 
-abbrev pub date_says : List ℕ → DateRead → Got Date
-date_says s (D.At d p) = got d (stream s p)
-date_says s D.Bad = bad
+abbrev pub date_says : List ℕ → Option (Date × Position) → Got Date
+date_says s (Some (d, p)) = got d (stream s p)
+date_says s None = bad
 
-abbrev pub clock_says : List ℕ → ClockRead → Got Clock
-clock_says s (C.At c p) = got c (stream s p)
-clock_says s C.Bad = bad
+abbrev pub clock_says : List ℕ → Option (Clock × Position) → Got Clock
+clock_says s (Some (c, p)) = got c (stream s p)
+clock_says s None = bad
 
 -- the fraction's digits are those at the position
-abbrev pub fraction_says : List ℕ → Fraction → Option (List ℕ)
-fraction_says s (F.At p) = some (leading_digits (stream s p))
-fraction_says s F.Bad = none
+abbrev pub fraction_says : List ℕ → Option Position → Maybe (List ℕ)
+fraction_says s (Some p) = some (leading_digits (stream s p))
+fraction_says s None = none
 
 -- ---- at a place of a text s
 unfoldable pub has_pair : List ℕ → ℕ → Bool

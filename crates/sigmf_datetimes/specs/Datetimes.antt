@@ -1,13 +1,12 @@
 -- Datetimes (document 01, "Fields", after source document 001). t is the decoded text.
-use Rattle.std.specs.Prelude.{Bool, true, false, cond, not, ◌&&◌, ◌||◌, List, [], ◌∷◌, ℕ, ◌+◌, ◌*◌, ◌-◌, ◌%◌, get_or, eqb, leb}
-use Rattle.std.proofs.Math.Option.{Option, none, some}
+use Rattle.json_strings.specs.declared.Position.{Position}
+use Rattle.std.specs.Prelude.{Bool, true, false, cond, not, ◌&&◌, ◌||◌, List, [], ◌∷◌, ℕ, ◌+◌, ◌*◌, ◌-◌, ◌%◌, get_or, eqb, leb, None, Option, Some}
+use Rattle.std.proofs.Math.Option.{Option as Maybe, none, some}
 use Rattle.json_tokens.specs.Number.{digit}
 use Rattle.json_strings.specs.Stream.{stream}
 use Rattle.refusals.specs.Answer.{Answer, accepted, refused, or_refused}
 use Rattle.sigmf_datetimes.specs.declared.Date.{Date}
 use Rattle.sigmf_datetimes.specs.declared.Clock.{Clock}
-use Rattle.sigmf_datetimes.specs.declared.Datetime.{Datetime}
-use Rattle.sigmf_datetimes.specs.declared.Datetime.TheVariants as T
 
 -- what was read off the front of a text, and the rest of it; or that it is not there
 pub data Got (A : Type 0) : Type 0 where
@@ -63,7 +62,7 @@ leading_digits [] = []
 leading_digits (b ∷ l) = cond (digit b) (b ∷ leading_digits l) []
 
 -- "optionally `.` and one or more digits, then `Z`": the fraction's digits
-unfoldable pub fraction_of : List ℕ → Option (List ℕ)
+unfoldable pub fraction_of : List ℕ → Maybe (List ℕ)
 fraction_of [] = none
 fraction_of (b ∷ l) =
     cond (eqb b 0x2E) (cond (starts_digit l && zoned l) (some (leading_digits l)) none)
@@ -98,26 +97,26 @@ pub record Moment : Type 0 where
   pub clock : Clock
   pub fraction : List ℕ
 
-abbrev pub moment_of : Date → Clock → Option (List ℕ) → Option Moment
+abbrev pub moment_of : Date → Clock → Maybe (List ℕ) → Maybe Moment
 moment_of d c (some f) = cond (moment_ok d c) (some (record { date = d; clock = c; fraction = f })) none
 moment_of d c none = none
 
-abbrev pub with_clock : Date → Got Clock → Option Moment
+abbrev pub with_clock : Date → Got Clock → Maybe Moment
 with_clock d (got c t) = moment_of d c (fraction_of t)
 with_clock d bad = none
 
-abbrev pub with_date : Got Date → Option Moment
+abbrev pub with_date : Got Date → Maybe Moment
 with_date (got d t) = with_clock d (clock_of t)
 with_date bad = none
 
-unfoldable pub datetime_of : List ℕ → Option Moment
+unfoldable pub datetime_of : List ℕ → Maybe Moment
 datetime_of t = with_date (date_of t)
 
 -- what an answer says of a text s: the fraction's digits are those that the decoded text from its position on begins with
 -- 11: "a `core:datetime` breaks its rule"
-abbrev pub datetime_says : List ℕ → Datetime → Answer Moment
-datetime_says s (T.At d c p) = accepted (record { date = d; clock = c; fraction = leading_digits (stream s p) })
-datetime_says s T.Bad = refused 11
+abbrev pub datetime_says : List ℕ → Option (Date × Clock × Position) → Answer Moment
+datetime_says s (Some (d, c, p)) = accepted (record { date = d; clock = c; fraction = leading_digits (stream s p) })
+datetime_says s None = refused 11
 
 abbrev pub datetime_answer : List ℕ → Answer Moment
 datetime_answer t = or_refused 11 (datetime_of t)

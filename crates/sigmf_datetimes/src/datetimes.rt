@@ -1,126 +1,111 @@
-ghost use Rattle.std.specs.Prelude.{◌≡◌, true, ◌+◌, ◌≤◌, length, leb};
+ghost use Rattle.std.specs.Prelude.{◌≡◌, true, ◌+◌, ◌<◌, ◌≤◌, length, leb, IfSome};
 ghost use Rattle.json_strings.specs.Stream.{start_at, next_byte, stream};
 ghost use Rattle.sigmf_texts.specs.Texts.{value_text};
-ghost use Rattle.sigmf_datetimes.specs.Datetimes.{pair_of, pair_then, date_of, clock_of, is_empty, starts_digit, zoned, fraction_of, leap, last_day, date_ok, clock_ok, datetime_answer};
-ghost use Rattle.sigmf_datetimes.specs.Datetimes.{datetime_says};
-ghost use Rattle.sigmf_datetimes.specs.DatetimeCode.{pair_says, date_says, clock_says, fraction_says};
-ghost use Rattle.sigmf_datetimes.specs.DatetimeCode.{has_pair, has_pair_then, pair_at, has_date, has_clock};
+ghost use Rattle.sigmf_datetimes.specs.Datetimes.{pair_of, pair_then, date_of, clock_of, is_empty, starts_digit, zoned, fraction_of, leap, last_day, date_ok, clock_ok, datetime_answer, datetime_says};
+ghost use Rattle.sigmf_datetimes.specs.DatetimeCode.{pair_says, date_says, clock_says, fraction_says, has_pair, has_pair_then, pair_at, has_date, has_clock};
 
-use crate::{Clock, ClockRead, Date, DateRead, Datetime, Fraction, Pair};
+use crate::{Clock, Date};
 use json_blocks::blocks::has_room;
 use json_blocks::{is_within, peek};
-use json_strings::{Position, Stream, next_byte};
+use json_strings::{Position, next_byte};
 
 // The next decoded byte, quickly where it stands for itself. The bytes of a datetime lie between these two.
-fn next(s: &[u8], p: Position) -> Stream
+fn next(s: &[u8], p: Position) -> Option<(u8, Position)>
     ensures { result ≡ next_byte s.now p }
 {
-    let at = p.at;
-    let k = p.passed;
-    if k == 0 {
-        let b = peek(s, at);
+    if p.passed == 0 {
+        let b = peek(s, p.at);
         if is_within(b'-', b'Z', b) {
-            let i = at + 1;
-            return Stream::Next(b, Position { at: i, passed: 0 });
+            return Some((
+                b,
+                Position {
+                    at: p.at + 1,
+                    passed: 0,
+                },
+            ));
         }
     }
     next_byte(s, p)
 }
 
 // Two digits stand at a place.
+#[tactic(auto, unfolding(crate::specs::DatetimeCode::has_pair))]
 fn has_pair(s: &[u8], at: usize) -> bool
     requires { at + 2 ≤ length s.now }
     ensures { result ≡ has_pair s.now at }
 {
-    if is_within(b'0', b'9', s[at]) {
-        return is_within(b'0', b'9', s[at + 1]);
-    }
-    false
+    is_within(b'0', b'9', s[at]) && is_within(b'0', b'9', s[at + 1])
 }
 
 // Two digits and a mark stand at a place.
+#[tactic(auto, unfolding(crate::specs::DatetimeCode::has_pair_then))]
 fn has_pair_then(s: &[u8], at: usize, mark: u8) -> bool
     requires { at + 3 ≤ length s.now }
     ensures { result ≡ has_pair_then mark s.now at }
 {
-    if has_pair(s, at) {
-        return s[at + 2] == mark;
-    }
-    false
+    has_pair(s, at) && s[at + 2] == mark
 }
 
 // The number of two digits at a place.
+#[tactic(auto, unfolding(crate::specs::DatetimeCode::has_pair, crate::specs::DatetimeCode::pair_at, json_blocks::specs::TextBytes::within))]
 fn pair_at(s: &[u8], at: usize) -> u64
     requires { has_pair s.now at ≡ true }
-    ensures { result ≡ pair_at s.now at }
+    ensures digits { result ≡ pair_at s.now at }
+    ensures small { result < 100 }
 {
     (s[at] - b'0') as u64 * 10 + (s[at + 1] - b'0') as u64
 }
 
 // Two digits from a position on.
-pub(crate) fn pair(s: &[u8], p: Position) -> Pair
-    ensures { pair_says s.now result ≡ pair_of (stream s.now p) }
+#[tactic(auto, using(json_strings::proofs::DecodeLaws::streamed_end), unfolding(crate::specs::Datetimes::pair_of, json_blocks::specs::TextBytes::within))]
+pub(crate) fn pair(s: &[u8], p: Position) -> Option<(u64, Position)>
+    ensures read { pair_says s.now result ≡ pair_of (stream s.now p) }
+    ensures small { IfSome result (λ r. r.0 < 100) }
 {
-    let g = next(s, p);
-    let Stream::Next(a, i) = g else {
-        return Pair::Bad;
-    };
-    if is_within(b'0', b'9', a) {
-        let h = next(s, i);
-        let Stream::Next(b, j) = h else {
-            return Pair::Bad;
-        };
-        if is_within(b'0', b'9', b) {
-            return Pair::Value((a - b'0') as u64 * 10 + (b - b'0') as u64, j);
-        }
-        return Pair::Bad;
+    let (a, i) = next(s, p)?;
+    if !is_within(b'0', b'9', a) {
+        return None;
     }
-    Pair::Bad
+    let (b, j) = next(s, i)?;
+    if !is_within(b'0', b'9', b) {
+        return None;
+    }
+    Some(((a - b'0') as u64 * 10 + (b - b'0') as u64, j))
 }
 
 // Two digits and a mark.
-pub(crate) fn pair_then(s: &[u8], p: Position, mark: u8) -> Pair
-    ensures { pair_says s.now result ≡ pair_then mark (stream s.now p) }
+#[tactic(auto, using(json_strings::proofs::DecodeLaws::streamed_next, json_strings::proofs::DecodeLaws::streamed_end), unfolding(crate::specs::Datetimes::pair_then, crate::specs::Datetimes::mark_after))]
+pub(crate) fn pair_then(s: &[u8], p: Position, mark: u8) -> Option<(u64, Position)>
+    ensures read { pair_says s.now result ≡ pair_then mark (stream s.now p) }
+    ensures small { IfSome result (λ r. r.0 < 100) }
 {
-    let r = pair(s, p);
-    let Pair::Value(v, i) = r else {
-        return Pair::Bad;
-    };
-    let g = next(s, i);
-    let Stream::Next(b, j) = g else {
-        return Pair::Bad;
-    };
-    if b == mark {
-        return Pair::Value(v, j);
+    let (v, p) = pair(s, p)?;
+    let (b, p) = next(s, p)?;
+    if b != mark {
+        return None;
     }
-    Pair::Bad
+    Some((v, p))
 }
 
 // YYYY-MM-DDT stands at a place, each byte for itself.
+#[tactic(auto, unfolding(crate::specs::DatetimeCode::has_date))]
 fn has_date(s: &[u8], at: usize) -> bool
     ensures { result ≡ has_date s.now at }
 {
-    if has_room(s, at, 11) {
-        if has_pair(s, at) {
-            if has_pair_then(s, at + 2, b'-') {
-                if has_pair_then(s, at + 5, b'-') {
-                    return has_pair_then(s, at + 8, b'T');
-                }
-                return false;
-            }
-            return false;
-        }
-        return false;
-    }
-    false
+    has_room(s, at, 11)
+        && has_pair(s, at)
+        && has_pair_then(s, at + 2, b'-')
+        && has_pair_then(s, at + 5, b'-')
+        && has_pair_then(s, at + 8, b'T')
 }
 
 // YYYY-MM-DDT
-pub(crate) fn date(s: &[u8], at: usize) -> DateRead
+#[tactic(auto, unfolding(crate::specs::DatetimeCode::has_date, crate::specs::DatetimeCode::has_pair_then))]
+pub(crate) fn date(s: &[u8], at: usize) -> Option<(Date, Position)>
     ensures { date_says s.now result ≡ date_of (stream s.now (start_at at)) }
 {
     if has_date(s, at) {
-        return DateRead::At(
+        return Some((
             Date {
                 year: pair_at(s, at) * 100 + pair_at(s, at + 2),
                 month: pair_at(s, at + 5),
@@ -130,270 +115,175 @@ pub(crate) fn date(s: &[u8], at: usize) -> DateRead
                 at: at + 11,
                 passed: 0,
             },
-        );
+        ));
     }
     decoded_date(s, at)
 }
 
 // The same, decoded.
-fn decoded_date(s: &[u8], at: usize) -> DateRead
+#[tactic(auto, unfolding(crate::specs::Datetimes::date_of))]
+fn decoded_date(s: &[u8], at: usize) -> Option<(Date, Position)>
     ensures { date_says s.now result ≡ date_of (stream s.now (start_at at)) }
 {
-    let p = pair(s, Position { at: at, passed: 0 });
-    let Pair::Value(c, a) = p else {
-        return DateRead::Bad;
-    };
-    let q = pair_then(s, a, b'-');
-    let Pair::Value(y, e) = q else {
-        return DateRead::Bad;
-    };
-    let r = pair_then(s, e, b'-');
-    let Pair::Value(month, g) = r else {
-        return DateRead::Bad;
-    };
-    let t = pair_then(s, g, b'T');
-    let Pair::Value(day, i) = t else {
-        return DateRead::Bad;
-    };
-    DateRead::At(
+    let (century, p) = pair(s, Position { at, passed: 0 })?;
+    let (year, p) = pair_then(s, p, b'-')?;
+    let (month, p) = pair_then(s, p, b'-')?;
+    let (day, p) = pair_then(s, p, b'T')?;
+    Some((
         Date {
-            year: c * 100 + y,
-            month: month,
-            day: day,
+            year: century * 100 + year,
+            month,
+            day,
         },
-        i,
-    )
+        p,
+    ))
 }
 
 // HH:MM:SS stands at a place, each byte for itself.
+#[tactic(auto, unfolding(crate::specs::DatetimeCode::has_clock))]
 fn has_clock(s: &[u8], at: usize) -> bool
     ensures { result ≡ has_clock s.now at }
 {
-    if has_room(s, at, 8) {
-        if has_pair_then(s, at, b':') {
-            if has_pair_then(s, at + 3, b':') {
-                return has_pair(s, at + 6);
-            }
-            return false;
-        }
-        return false;
-    }
-    false
+    has_room(s, at, 8)
+        && has_pair_then(s, at, b':')
+        && has_pair_then(s, at + 3, b':')
+        && has_pair(s, at + 6)
 }
 
 // HH:MM:SS
-pub(crate) fn clock(s: &[u8], p: Position) -> ClockRead
+#[tactic(auto, unfolding(crate::specs::DatetimeCode::has_clock, crate::specs::DatetimeCode::has_pair_then))]
+pub(crate) fn clock(s: &[u8], p: Position) -> Option<(Clock, Position)>
     ensures { clock_says s.now result ≡ clock_of (stream s.now p) }
 {
-    let at = p.at;
-    let k = p.passed;
-    if k == 0 {
-        if has_clock(s, at) {
-            return ClockRead::At(
-                Clock {
-                    hour: pair_at(s, at),
-                    minute: pair_at(s, at + 3),
-                    second: pair_at(s, at + 6),
-                },
-                Position {
-                    at: at + 8,
-                    passed: 0,
-                },
-            );
-        }
-        return decoded_clock(s, p);
+    if p.passed == 0 && has_clock(s, p.at) {
+        return Some((
+            Clock {
+                hour: pair_at(s, p.at),
+                minute: pair_at(s, p.at + 3),
+                second: pair_at(s, p.at + 6),
+            },
+            Position {
+                at: p.at + 8,
+                passed: 0,
+            },
+        ));
     }
     decoded_clock(s, p)
 }
 
 // The same, decoded.
-fn decoded_clock(s: &[u8], from: Position) -> ClockRead
+#[tactic(auto, unfolding(crate::specs::Datetimes::clock_of))]
+fn decoded_clock(s: &[u8], from: Position) -> Option<(Clock, Position)>
     ensures { clock_says s.now result ≡ clock_of (stream s.now from) }
 {
-    let p = pair_then(s, from, b':');
-    let Pair::Value(hour, a) = p else {
-        return ClockRead::Bad;
-    };
-    let q = pair_then(s, a, b':');
-    let Pair::Value(minute, e) = q else {
-        return ClockRead::Bad;
-    };
-    let r = pair(s, e);
-    let Pair::Value(second, g) = r else {
-        return ClockRead::Bad;
-    };
-    ClockRead::At(
+    let (hour, p) = pair_then(s, from, b':')?;
+    let (minute, p) = pair_then(s, p, b':')?;
+    let (second, p) = pair(s, p)?;
+    Some((
         Clock {
-            hour: hour,
-            minute: minute,
-            second: second,
+            hour,
+            minute,
+            second,
         },
-        g,
-    )
+        p,
+    ))
 }
 
 pub(crate) fn is_end(s: &[u8], p: Position) -> bool
     ensures { result ≡ is_empty (stream s.now p) }
 {
-    let g = next(s, p);
-    let Stream::Next(b, q) = g else {
-        return true;
-    };
-    false
+    next(s, p).is_none()
 }
 
+#[tactic(auto, using(json_strings::proofs::DecodeLaws::streamed_end))]
 pub(crate) fn begins_digit(s: &[u8], p: Position) -> bool
     ensures { result ≡ starts_digit (stream s.now p) }
 {
-    let g = next(s, p);
-    let Stream::Next(b, q) = g else {
+    let Some((b, _)) = next(s, p) else {
         return false;
     };
     is_within(b'0', b'9', b)
 }
 
 // Digits, Z and no more.
+#[tactic(auto, using(json_strings::proofs::DecodeLaws::streamed_next, json_strings::proofs::DecodeLaws::streamed_end), unfolding(crate::specs::Datetimes::zoned))]
 pub(crate) fn is_zoned(s: &[u8], from: Position) -> bool
     ensures { result ≡ zoned (stream s.now from) }
 {
     let mut p = from;
-    loop {
-        let g = next(s, p);
-        let Stream::Next(b, q) = g else {
-            return false;
-        };
+    while let Some((b, q)) = next(s, p) {
         if b == b'Z' {
             return is_end(s, q);
         }
-        if is_within(b'0', b'9', b) {
-            p = q;
-        } else {
+        if !is_within(b'0', b'9', b) {
             return false;
         }
-    }
-}
-
-// Where the digits of the fraction stand, if there are any, before the Z that ends the text.
-pub(crate) fn fraction(s: &[u8], p: Position) -> Fraction
-    ensures { fraction_says s.now result ≡ fraction_of (stream s.now p) }
-{
-    let g = next(s, p);
-    let Stream::Next(b, q) = g else {
-        return Fraction::Bad;
-    };
-    if b == b'.' {
-        if begins_digit(s, q) {
-            if is_zoned(s, q) {
-                return Fraction::At(q);
-            }
-            return Fraction::Bad;
-        }
-        return Fraction::Bad;
-    }
-    if b == b'Z' {
-        if is_end(s, q) {
-            return Fraction::At(q);
-        }
-        return Fraction::Bad;
-    }
-    Fraction::Bad
-}
-
-pub(crate) fn is_leap(y: u64) -> bool
-    ensures { result ≡ leap y }
-{
-    if y % 4 == 0 {
-        if y % 100 == 0 {
-            return y % 400 == 0;
-        }
-        return true;
+        p = q;
     }
     false
 }
 
+// Where the digits of the fraction stand, if there are any, before the Z that ends the text.
+#[tactic(auto, using(json_strings::proofs::DecodeLaws::streamed_next, json_strings::proofs::DecodeLaws::streamed_end, crate::proofs::DatetimeLaws::no_digits), unfolding(crate::specs::Datetimes::fraction_of))]
+pub(crate) fn fraction(s: &[u8], p: Position) -> Option<Position>
+    ensures { fraction_says s.now result ≡ fraction_of (stream s.now p) }
+{
+    let (b, q) = next(s, p)?;
+    match b {
+        b'.' if begins_digit(s, q) && is_zoned(s, q) => Some(q),
+        b'Z' if is_end(s, q) => Some(q),
+        _ => None,
+    }
+}
+
+#[tactic(auto, unfolding(crate::specs::Datetimes::leap))]
+pub(crate) fn is_leap(y: u64) -> bool
+    ensures { result ≡ leap y }
+{
+    y % 4 == 0 && (y % 100 != 0 || y % 400 == 0)
+}
+
 // The last day of a month; 0 if there is no such month.
+#[tactic(auto, unfolding(crate::specs::Datetimes::last_day, crate::specs::Datetimes::month_days))]
 pub(crate) fn last_day(y: u64, m: u64) -> u64
     ensures { result ≡ last_day y m }
 {
-    if m == 2 {
-        if is_leap(y) {
-            return 29;
-        }
-        return 28;
-    }
     match m {
-        1 => 31,
-        3 => 31,
-        4 => 30,
-        5 => 31,
-        6 => 30,
-        7 => 31,
-        8 => 31,
-        9 => 30,
-        10 => 31,
-        11 => 30,
-        12 => 31,
+        1 | 3 | 5 | 7 | 8 | 10 | 12 => 31,
+        4 | 6 | 9 | 11 => 30,
+        2 if is_leap(y) => 29,
+        2 => 28,
         _ => 0,
     }
 }
 
+#[tactic(auto, unfolding(crate::specs::Datetimes::date_ok))]
 pub(crate) fn is_date(d: Date) -> bool
     ensures { result ≡ date_ok d }
 {
-    if d.day < 1 {
-        return false;
-    }
-    let last = last_day(d.year, d.month);
-    d.day <= last
+    1 <= d.day && d.day <= last_day(d.year, d.month)
 }
 
 // A time of day; last says that it is on a month's last day.
+#[tactic(auto, unfolding(crate::specs::Datetimes::clock_ok))]
 pub(crate) fn is_clock(last: bool, c: Clock) -> bool
     ensures { result ≡ clock_ok last c }
 {
-    if 23 < c.hour {
-        return false;
-    }
-    if 59 < c.minute {
-        return false;
-    }
-    if c.second <= 59 {
-        return true;
-    }
-    if c.second == 60 {
-        if c.hour == 23 {
-            if c.minute == 59 {
-                return last;
-            }
-            return false;
-        }
-        return false;
-    }
-    false
+    c.hour <= 23
+        && c.minute <= 59
+        && (c.second <= 59 || (c.second == 60 && c.hour == 23 && c.minute == 59 && last))
 }
 
 // The parts of a datetime.
-pub fn datetime(part: &[u8]) -> Datetime
+#[tactic(auto, using(json_strings::proofs::DecodeLaws::stream_start), unfolding(crate::specs::Datetimes::datetime_of))]
+pub fn datetime(part: &[u8]) -> Option<(Date, Clock, Position)>
     ensures { datetime_says part.now result ≡ datetime_answer (value_text part.now) }
 {
-    let p = date(part, 1);
-    let DateRead::At(d, a) = p else {
-        return Datetime::Bad;
-    };
-    let q = clock(part, a);
-    let ClockRead::At(c, e) = q else {
-        return Datetime::Bad;
-    };
-    let r = fraction(part, e);
-    let Fraction::At(f) = r else {
-        return Datetime::Bad;
-    };
-    if is_date(d) {
-        let last = last_day(d.year, d.month);
-        if is_clock(d.day == last, c) {
-            return Datetime::At(d, c, f);
-        }
-        return Datetime::Bad;
+    let (d, p) = date(part, 1)?;
+    let (c, p) = clock(part, p)?;
+    let digits = fraction(part, p)?;
+    if is_date(d) && is_clock(d.day == last_day(d.year, d.month), c) {
+        return Some((d, c, digits));
     }
-    Datetime::Bad
+    None
 }

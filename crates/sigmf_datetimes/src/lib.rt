@@ -18,35 +18,3 @@ pub struct Clock {
     pub minute: u64,
     pub second: u64,
 }
-
-// The parts of a datetime, and where its fraction's digits begin or, without a fraction, what stands past the Z.
-#[derive(Clone, Copy)]
-pub enum Datetime {
-    At(Date, Clock, Position),
-    Bad,
-}
-
-// Each of these says what was read, and where the rest stands.
-#[derive(Clone, Copy)]
-pub enum Pair {
-    Value(u64, Position),
-    Bad,
-}
-
-#[derive(Clone, Copy)]
-pub enum DateRead {
-    At(Date, Position),
-    Bad,
-}
-
-#[derive(Clone, Copy)]
-pub enum ClockRead {
-    At(Clock, Position),
-    Bad,
-}
-
-#[derive(Clone, Copy)]
-pub enum Fraction {
-    At(Position),
-    Bad,
-}

@@ -1,4 +1,5 @@
 -- The walk over the entries of core:extensions.
+use Rattle.std.specs.Prelude.{None, Some}
 use mathlib.Core.Path.{◌≡◌, refl, sym, ap, ◌∙◌}
 use mathlib.Core.Bool.{Bool, true, false, ◌||◌}
 use mathlib.Core.List.{List, [], ◌∷◌, map}
@@ -12,7 +13,6 @@ use Rattle.json_blocks.specs.Lists.{any}
 use Rattle.json_blocks.proofs.ByteLaws.{blanks_onward}
 use Rattle.json_grammar.specs.Skip.{token_byte}
 use Rattle.json_walk.specs.declared.Element.{Element}
-use Rattle.json_walk.specs.declared.ElementStep.TheVariants as S
 use Rattle.json_walk.specs.Members.{element_step, element_found, elements_from}
 use Rattle.json_walk.proofs.StepLaws.{element_steps, elements_none}
 use Rattle.json_walk.proofs.EndLaws.{elements_found, elements_over}
@@ -47,7 +47,7 @@ abbrev pub entries_from : List ℕ → ℕ → List Extension
 entries_from s i = map (λ e. extension_of (part_of s e.at e.end)) (elements_from s i)
 
 module _ (s : List ℕ) (i low : ℕ) where
-  module _ (e : Element) (j : ℕ) (h : element_step s i ≡ S.Found e j) where
+  module _ (e : Element) (j : ℕ) (h : element_step s i ≡ Some (e, j)) where
     pub entry_past : (i < j) × (i < length s)
     entry_past = element_steps s i e j (ap element_found h)
 
@@ -61,7 +61,7 @@ module _ (s : List ℕ) (i low : ℕ) where
         ∙ sym (more_low (extension_of (part_of s e.at e.end)) (entries_from s j))
         ∙ ap (λ (es : List Element). entries_low (map (λ x. extension_of (part_of s x.at x.end)) es)) (sym (elements_found s i e j h)))
 
-  pub entries_over : element_step s i ≡ S.End → low ≡ least low (entries_low (entries_from s i))
+  pub entries_over : element_step s i ≡ None → low ≡ least low (entries_low (entries_from s i))
   entries_over h =
       least_unit low ∙ ap (least low)
       (no_entries ∙ ap (λ (es : List Element). entries_low (map (λ x. extension_of (part_of s x.at x.end)) es)) (sym (elements_over s i h)))

@@ -6,7 +6,7 @@ ghost use Rattle.sigmf_extensions.specs.Extensions.{extension_refusal, entries_a
 use crate::Extension;
 use crate::entry::extension;
 use json_blocks::Cursor;
-use json_walk::{ElementStep, next_element};
+use json_walk::next_element;
 use refusals::least;
 use sigmf_values::value::part_of;
 
@@ -21,24 +21,19 @@ fn entry_low(x: Extension) -> u64
 }
 
 // The lower of 12 and 13 that the entries of the array at a place give cause for, 0 for none.
+#[tactic(auto, using(crate::proofs::EntriesLaws::entry_past, crate::proofs::EntriesLaws::entries_over, crate::proofs::EntriesLaws::entries_begin, crate::proofs::EntriesLaws::entries_past, crate::proofs::EntriesLaws::entries_are))]
 pub fn entries_refusal(s: &[u8], at: usize) -> u64
     ensures { result ≡ lowest (entries_rules (entries_at s.now at)) }
 {
     if s.len() <= at {
         return 0;
     }
-    let c = Cursor { at: at + 1 }.skip_blanks(s);
-    let mut i = c.at;
+    let mut i = Cursor { at: at + 1 }.skip_blanks(s).at;
     let mut low = 0u64;
-    loop {
-        let g = next_element(s, i);
-        let ElementStep::Found(e, next) = g else {
-            return low;
-        };
-        let part = part_of(s, e.at, e.end);
-        let x = extension(part);
-        let l = entry_low(x);
-        low = least(low, l);
+    while let Some((e, next)) = next_element(s, i) {
+        let x = extension(part_of(s, e.at, e.end));
+        low = least(low, entry_low(x));
         i = next;
     }
+    low
 }

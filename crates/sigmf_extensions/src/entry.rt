@@ -5,11 +5,12 @@ ghost use Rattle.refusals.specs.Refusals.{lowest};
 use crate::{EntryMember, Extension, Tally};
 use json_blocks::Cursor;
 use json_names::text_is;
-use json_walk::{Member, MemberStep, next_member};
+use json_walk::{Member, next_member};
 use sigmf_values::FieldType;
 use sigmf_values::value::{has_type, is_true, part_of};
 
 // What a member of an entry is.
+#[tactic(auto, unfolding(crate::specs::Extensions::class_of))]
 pub(crate) fn entry_member(part: &[u8], m: Member) -> EntryMember
     ensures { result ≡ class_of part.now m }
 {
@@ -17,26 +18,25 @@ pub(crate) fn entry_member(part: &[u8], m: Member) -> EntryMember
     let value = part_of(part, m.value, m.end);
     if text_is(name, 0, b"name") {
         if has_type(FieldType::Text, value) {
-            return EntryMember::Name;
+            EntryMember::Name
+        } else {
+            EntryMember::Other
         }
-        return EntryMember::Other;
-    }
-    if text_is(name, 0, b"version") {
+    } else if text_is(name, 0, b"version") {
         if has_type(FieldType::Text, value) {
-            return EntryMember::Version;
+            EntryMember::Version
+        } else {
+            EntryMember::Other
         }
-        return EntryMember::Other;
-    }
-    if text_is(name, 0, b"optional") {
-        if has_type(FieldType::Boolean, value) {
-            if is_true(value) {
-                return EntryMember::OptionalTrue;
-            }
-            return EntryMember::OptionalFalse;
+    } else if text_is(name, 0, b"optional") && has_type(FieldType::Boolean, value) {
+        if is_true(value) {
+            EntryMember::OptionalTrue
+        } else {
+            EntryMember::OptionalFalse
         }
-        return EntryMember::Other;
+    } else {
+        EntryMember::Other
     }
-    EntryMember::Other
 }
 
 // One member more. No count is above the place n.
@@ -49,50 +49,34 @@ pub(crate) fn count(t: Tally, class: EntryMember, n: usize) -> Tally
     match class {
         EntryMember::Name => Tally {
             names: t.names + 1,
-            versions: t.versions,
-            optionals: t.optionals,
-            trues: t.trues,
-            others: t.others,
+            ..t
         },
         EntryMember::Version => Tally {
-            names: t.names,
             versions: t.versions + 1,
-            optionals: t.optionals,
-            trues: t.trues,
-            others: t.others,
+            ..t
         },
-        EntryMember::OptionalTrue => {
-            Tally {
-                names: t.names,
-                versions: t.versions,
-                optionals: t.optionals + 1,
-                trues: t.trues + 1,
-                others: t.others,
-            }
-        }
-        EntryMember::OptionalFalse => Tally {
-            names: t.names,
-            versions: t.versions,
+        EntryMember::OptionalTrue => Tally {
             optionals: t.optionals + 1,
-            trues: t.trues,
-            others: t.others,
+            trues: t.trues + 1,
+            ..t
+        },
+        EntryMember::OptionalFalse => Tally {
+            optionals: t.optionals + 1,
+            ..t
         },
         EntryMember::Other => Tally {
-            names: t.names,
-            versions: t.versions,
-            optionals: t.optionals,
-            trues: t.trues,
             others: t.others + 1,
+            ..t
         },
     }
 }
 
 // How many members of each class an entry has.
+#[tactic(auto, using(crate::proofs::ExtensionLaws::tally_end, crate::proofs::ExtensionLaws::step_on))]
 pub(crate) fn tally(part: &[u8]) -> Tally
     ensures { result ≡ tally_of part.now }
 {
-    let c = Cursor { at: 1 }.skip_blanks(part);
-    let mut at = c.at;
+    let mut at = Cursor { at: 1 }.skip_blanks(part).at;
     let mut t = Tally {
         names: 0,
         versions: 0,
@@ -100,15 +84,11 @@ pub(crate) fn tally(part: &[u8]) -> Tally
         trues: 0,
         others: 0,
     };
-    loop {
-        let g = next_member(part, at);
-        let MemberStep::Found(m, j) = g else {
-            return t;
-        };
-        let class = entry_member(part, m);
-        t = count(t, class, at);
-        at = j;
+    while let Some((m, next)) = next_member(part, at) {
+        t = count(t, entry_member(part, m), at);
+        at = next;
     }
+    t
 }
 
 // Whether an extension with this value of optional is needed.
@@ -118,34 +98,29 @@ pub(crate) fn is_needed(optional: bool) -> bool
     !optional
 }
 
+#[tactic(auto, unfolding(crate::specs::Extensions::judged))]
 pub(crate) fn judge(t: Tally) -> Extension
     ensures { result ≡ judged t }
 {
-    if t.names == 1 {
-        if t.versions == 1 {
-            if t.optionals == 1 {
-                if t.others == 0 {
-                    if is_needed(t.trues == 1) {
-                        return Extension::Needed;
-                    }
-                    return Extension::Ignored;
-                }
-                return Extension::Malformed;
-            }
-            return Extension::Malformed;
+    if t.names == 1 && t.versions == 1 && t.optionals == 1 && t.others == 0 {
+        if is_needed(t.trues == 1) {
+            Extension::Needed
+        } else {
+            Extension::Ignored
         }
-        return Extension::Malformed;
+    } else {
+        Extension::Malformed
     }
-    Extension::Malformed
 }
 
 // What an entry of core:extensions is.
+#[tactic(auto, unfolding(crate::specs::Extensions::judged, refusals::specs::Refusals::lowest))]
 pub fn extension(part: &[u8]) -> Extension
     ensures { extension_refusal result ≡ lowest (extension_rules part.now) }
 {
     if has_type(FieldType::Object, part) {
-        let t = tally(part);
-        return judge(t);
+        judge(tally(part))
+    } else {
+        Extension::Malformed
     }
-    Extension::Malformed
 }

@@ -1,12 +1,14 @@
 -- A raw name and its decoded text: names that stand for themselves, and how the text is counted and written, byte by byte.
+use Rattle.std.specs.Prelude.{None, Option, Some}
 use mathlib.Core.Path.{◌≡◌, refl, sym, ap, ◌∙◌}
-use mathlib.Core.Bool.{Bool, true, false, cond, ◌&&◌}
+use mathlib.Core.Bool.{Bool, true, false, ◌&&◌}
 use mathlib.Core.List.{List, [], ◌∷◌, ◌++◌, append_assoc, append-nil}
 use Prim.Native.Nat.{ℕ, suc, ◌≤◌, ◌<◌, ◌+◌}
 use native.Mathlib.Omega.{arith}
 use native.Mathlib.Numerals.{add-one}
-use lib.ListN.{length, get_or, take, drop, set, length-set, drop_of_length-le}
-use lib.Seq.{length-take-le, take_all, take_at, take-suc-set, drop-cons}
+use Rattle.std.specs.List.{list_all}
+use lib.ListN.{length, take, set, length-set}
+use lib.Seq.{length-take-le, take_all, take_at, take-suc-set}
 use lib.Dec.{eqb, ltb, leb}
 use borrow.Author.Tests.{le-leb, leb-true, leb-false, ltb-true, ltb-false, eqb-true}
 use Rattle.json_blocks.specs.TextBytes.{byte}
@@ -14,13 +16,10 @@ use Rattle.json_blocks.specs.Blocks.{ordinary_byte, block_at}
 use Rattle.json_blocks.specs.Lists.{all}
 use Rattle.json_blocks.proofs.BlockLaws.{and_left, and_right, ordinary_is, all_of, all_each, block_good}
 use Rattle.json_strings.specs.declared.Position.{Position}
-use Rattle.json_strings.specs.declared.Stream.{Stream}
-use Rattle.json_strings.specs.declared.Stream.TheVariants.{Next, End}
 use Rattle.json_strings.specs.Stream.{start_at, next_byte, stream}
 use Rattle.json_strings.proofs.DecodeLaws.{plain_whole, next_plain, stream_start, streamed_next, streamed_end}
 use Rattle.sigmf_datatypes.proofs.Laws.{all_at_lem}
 use Rattle.sigmf_texts.specs.Texts.{name_text}
-use Rattle.sigmf_texts.proofs.FormLaws.{all_end, all_on, all_not}
 use Rattle.sigmf_names.specs.DecodedCode.{direct_at}
 
 -- ---- a name of bytes that stand for themselves is its own decoded text
@@ -38,20 +37,10 @@ unfolding all
 all_ordinary [] h = refl
 all_ordinary (b ∷ s) h = rw (h 0 (omega arith)) (all_ordinary s (λ j l. h (suc j) (omega arith)))
 
--- ---- the bytes of a name from i on
-module _ (s : List ℕ) (i : ℕ) where
-  pub verbatim_end : length s ≤ i → true ≡ all ordinary_byte (drop i s)
-  verbatim_end h = all_end (drop i s) ordinary_byte (drop_of_length-le s h)
-
-  module _ (h : i < length s) (b : ℕ) (e : b ≡ get_or s i 0) where
-    head : drop i s ≡ b ∷ drop (i + 1) s
-    head = rw (add-one i, e) (drop-cons s i 0 h)
-
-    pub verbatim_not : ordinary_byte b ≡ false → false ≡ all ordinary_byte (drop i s)
-    verbatim_not q = all_not (drop i s) b _ head ordinary_byte q
-
-    pub verbatim_on : ordinary_byte b ≡ true → all ordinary_byte (drop (i + 1) s) ≡ all ordinary_byte (drop i s)
-    verbatim_on q = all_on (drop i s) b _ head ordinary_byte q
+pub listed : (test : ℕ → Bool) (s : List ℕ) → list_all test s ≡ all test s
+unfolding all
+listed test [] = refl
+listed test (b ∷ s) = ap (λ (t : Bool). test b && t) (listed test s)
 
 -- ---- in blocks of eight, the last one being that at the name's end
 module _ (s : List ℕ) where
@@ -88,7 +77,7 @@ module _ (s : List ℕ) (p : Position) (h : direct_at s p ≡ true) where
   unfolding direct_at
   direct_inside = ltb-true _ _ (and_right (eqb p.passed 0) _ (and_left (eqb p.passed 0 && ltb p.at (length s)) _ h))
 
-  pub direct_next : Next (byte s p.at) (start_at (p.at + 1)) ≡ next_byte s p
+  pub direct_next : Some ((byte s p.at), (start_at (p.at + 1))) ≡ next_byte s p
   unfolding direct_at
   direct_next =
       let o = ordinary_is (byte s p.at) (and_right (eqb p.passed 0 && ltb p.at (length s)) _ h) in
@@ -103,14 +92,14 @@ pub count_start : (s : List ℕ) (limit : ℕ) → Counted s limit (start_at 0) 
 count_start s limit = record { below = omega arith; rest = omega (arith, ap length (stream_start s 0)) }
 
 module _ (s : List ℕ) (limit : ℕ) (p : Position) (n : ℕ) (c : Counted s limit p n) where
-  pub count_full : limit ≤ n → n ≡ length (take limit (name_text s))
+  pub count_full : limit ≤ n → limit ≡ length (take limit (name_text s))
   count_full h = omega (arith, c.below, length-take-le limit (name_text s) (omega (arith, c.rest)))
 
-  module _ (g : Stream) (e : g ≡ next_byte s p) where
-    pub count_on : (b : ℕ) (q : Position) → n < limit → g ≡ Next b q → Counted s limit q (n + 1)
+  module _ (g : Option (ℕ × Position)) (e : g ≡ next_byte s p) where
+    pub count_on : (b : ℕ) (q : Position) → n < limit → g ≡ Some (b, q) → Counted s limit q (n + 1)
     count_on b q l h = record { below = omega arith; rest = omega (arith, c.rest, ap length (streamed_next s p g e b q h)) }
 
-    pub count_end : g ≡ End → n ≡ length (take limit (name_text s))
+    pub count_end : g ≡ None → n ≡ length (take limit (name_text s))
     count_end h =
         let m : n ≡ length (name_text s) = omega (arith, c.rest, ap length (streamed_end s p g e h)) in
         rw (take_all limit (name_text s) (omega (arith, c.below))) m
@@ -126,23 +115,24 @@ pub put_start : (s m : List ℕ) → Put s m (start_at 0) 0 m
 put_start s m = record { long = refl; room = omega arith; text = stream_start s 0 }
 
 module _ (s m : List ℕ) (o : Position) (n : ℕ) (out : List ℕ) (p : Put s m o n out) where
-  pub put_full : length out ≤ n → take n out ≡ take (length m) (name_text s)
+  pub put_full : length m ≤ n → take (length out) out ≡ take (length m) (name_text s)
   put_full h =
+      let e : length out ≡ n = omega (arith, p.room, p.long) in
       let l : length (take n out) ≡ length m = length-take-le n out p.room ∙ omega (arith, p.room, p.long) in
-      rw (← p.text) (sym (take_at (take n out) (stream s o) (length m) l))
+      rw (e, ← p.text) (sym (take_at (take n out) (stream s o) (length m) l))
 
-  module _ (g : Stream) (e : g ≡ next_byte s o) (h : n < length out) where
-    pub put_on : (b : ℕ) (i : Position) → g ≡ Next b i → Put s m i (n + 1) (set out n b)
+  module _ (g : Option (ℕ × Position)) (e : g ≡ next_byte s o) (h : n < length m) where
+    pub put_on : (b : ℕ) (i : Position) → g ≡ Some (b, i) → Put s m i (n + 1) (set out n b)
     put_on b i q = record {
       long = length-set out n b ∙ p.long;
       room = rw (length-set out n b) (omega arith);
       text =
-          rw (add-one n, take-suc-set out n b h)
+          rw (add-one n, take-suc-set out n b (omega (arith, p.long)))
           (append_assoc (take n out) (b ∷ []) (stream s i)
           ∙ ap (λ (x : List ℕ). take n out ++ x) (sym (streamed_next s o g e b i q)) ∙ p.text);
     }
 
-    pub put_end : g ≡ End → take n out ≡ take (length m) (name_text s)
+    pub put_end : g ≡ None → take n out ≡ take (length m) (name_text s)
     put_end q = sym (whole (name_text s) (sym p.text ∙ ap (λ (x : List ℕ). take n out ++ x) (streamed_end s o g e q)))
       where
         whole : (x : List ℕ) → x ≡ take n out ++ [] → take (length m) x ≡ take n out
@@ -166,9 +156,9 @@ module _ (x : List ℕ) (n : ℕ) (e : n ≡ length (take 21 x)) where
     go false q = let m = leb-false (length x) 20 q in absurd (omega (arith, e, l, length-take-le 21 x (omega arith)))
 
 -- ---- the text that is looked up: the raw name if it stands for itself, else what was written
-module _ (s : List ℕ) (v : Bool) (x : List ℕ) where
-  pub text_raw : v ≡ all ordinary_byte s → v ≡ true → cond v s x ≡ name_text s
-  text_raw h e = rw e (sym (itself s (sym h ∙ e)))
+module _ (s : List ℕ) where
+  pub text_raw : (v : Bool) → v ≡ all ordinary_byte s → v ≡ true → s ≡ name_text s
+  text_raw v h e = sym (itself s (sym h ∙ e))
 
-  pub text_decoded : v ≡ false → length (name_text s) ≤ 20 → x ≡ take 20 (name_text s) → cond v s x ≡ name_text s
-  text_decoded e l q = rw e (q ∙ take_all 20 (name_text s) l)
+  pub text_decoded : (x : List ℕ) → length (name_text s) ≤ 20 → x ≡ take 20 (name_text s) → x ≡ name_text s
+  text_decoded x l q = q ∙ take_all 20 (name_text s) l

@@ -2,13 +2,13 @@
 use mathlib.Core.Path.{◌≡◌, refl, sym, ap, ◌∙◌}
 use mathlib.Core.Bool.{Bool, true, false, cond, ◌&&◌, ◌||◌, and-true, and_assoc, false≢true}
 use mathlib.Core.List.{List, [], ◌∷◌}
-use Prim.Native.Nat.{ℕ, suc, ◌≤◌, ◌<◌, ◌+◌}
+use Prim.Native.Nat.{ℕ, zero, suc, ◌≤◌, ◌<◌, ◌+◌}
 use native.Mathlib.Omega.{arith}
 use native.Mathlib.Numerals.{add-one}
 use lib.ListN.{length, get_or, drop, get_or-eq_default, drop_of_length-le}
 use lib.Seq.{drop-cons}
-use lib.Dec.{eqb, leb}
-use borrow.Author.Tests.{ne_eqb, eqb-false, lt-leb}
+use lib.Dec.{eqb, ltb, leb}
+use borrow.Author.Tests.{ne_eqb, eqb-false, lt-leb, ltb-true, ltb-false}
 use Rattle.json_blocks.specs.TextBytes.{within}
 use Rattle.json_blocks.specs.Lists.{all}
 use Rattle.json_blocks.proofs.BlockLaws.{and_left, and_right}
@@ -20,6 +20,7 @@ use Rattle.sigmf_texts.specs.Form.{name_byte, namespace_byte, namespace_of, afte
 use Rattle.sigmf_texts.proofs.LookupLaws.{index_same}
 use Rattle.sigmf_names.specs.declared.Object.{Object}
 use Rattle.sigmf_names.specs.declared.Object.TheVariants as O
+use Rattle.sigmf_values.specs.declared.FieldType.{FieldType}
 use Rattle.sigmf_values.specs.declared.FieldType.TheVariants as T
 use Rattle.sigmf_names.specs.declared.NameLookup.{NameLookup}
 use Rattle.sigmf_names.specs.Lookup.{names_of_length, lookup_in}
@@ -30,6 +31,29 @@ use Rattle.sigmf_names.specs.Names.{Core, global_fields, capture_fields, annotat
 pub type_over : (cs : List Core) (i : ℕ) → length cs ≤ i → T.Any ≡ type_at cs i
 unfolding type_at core_at
 type_over cs i h = ap (λ (c : Core). c.type) (sym (get_or-eq_default cs other_field h))
+
+-- ---- n fields of a list, from the a-th on, have one type
+unfoldable pub Typed : FieldType → ℕ → ℕ → List Core → Type 0
+Typed t a zero cs = Unit {0}
+Typed t a (suc n) [] = ⊥
+Typed t (suc a) (suc n) (c ∷ cs) = Typed t a (suc n) cs
+Typed t zero (suc n) (c ∷ cs) = (t ≡ c.type) × Typed t zero n cs
+
+pub typed : (t : FieldType) (a n : ℕ) (cs : List Core) (i : ℕ) → Typed t a n cs → a ≤ i → i < a + n → t ≡ type_at cs i
+unfolding Typed type_at core_at
+typed t a zero cs i h l m = absurd (omega arith)
+typed t a (suc n) [] i h l m = absurd h
+typed t (suc a) (suc n) (c ∷ cs) (suc i) h l m = typed t a (suc n) cs i h (omega arith) (omega arith)
+typed t (suc a) (suc n) (c ∷ cs) zero h l m = absurd (omega arith)
+typed t zero (suc n) (c ∷ cs) zero h l m = h.0
+typed t zero (suc n) (c ∷ cs) (suc i) h l m = typed t zero n cs i h.1 (omega arith) (omega arith)
+
+-- the last n fields, from the a-th on, and what is past the end
+pub type_rest : (cs : List Core) (a n i : ℕ) → Typed T.Any a n cs → length cs ≤ a + n → a ≤ i → T.Any ≡ type_at cs i
+type_rest cs a n i t e l = go (ltb i (a + n)) refl where
+  go : (b : Bool) → ltb i (a + n) ≡ b → T.Any ≡ type_at cs i
+  go true q = typed T.Any a n cs i t l (ltb-true _ _ q)
+  go false q = type_over cs i (omega (arith, ltb-false _ _ q))
 
 -- ---- a test that every name of a list passes is passed by every known name
 known : (f : List ℕ → Bool) (cs : List Core) (d : List ℕ) → all (λ (c : Core). f (core_name c)) cs ≡ true → index_in core_name cs d < length cs → f d ≡ true
@@ -76,10 +100,6 @@ by_length cs n d e = let p : place_from 0 (length d) cs d ≡ index_in core_name
 -- one name after another
 pub then : (b : Bool) (i : ℕ) {r x y : NameLookup} → r ≡ one_more b i x → x ≡ y → r ≡ one_more b i y
 then b i e f = e ∙ ap (one_more b i) f
-
-pub count_more : (b : Bool) (i : ℕ) (x : NameLookup) {r : NameLookup} → r ≡ one_more b i x → r.compared ≡ x.compared + 1
-unfolding one_more
-count_more b i x e = ap (λ (r : NameLookup). r.compared) e
 
 -- ---- a name whose length is none of the names'
 -- a test of lengths that every name of a list passes, and d does not

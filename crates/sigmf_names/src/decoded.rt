@@ -1,12 +1,12 @@
 // A raw name and its decoded text.
-ghost use Rattle.std.specs.Prelude.{◌≡◌, cond, ◌≤◌, length, take};
+ghost use Rattle.std.specs.Prelude.{◌≡◌, ◌≤◌, length, take};
 ghost use Rattle.json_blocks.specs.Blocks.{ordinary_byte};
 ghost use Rattle.json_blocks.specs.Lists.{all};
 ghost use Rattle.sigmf_texts.specs.Texts.{name_text};
 ghost use Rattle.sigmf_names.specs.DecodedCode.{direct_at};
 
 use json_blocks::blocks::{is_ordinary, is_ordinary_block};
-use json_strings::{Position, Stream, next_byte};
+use json_strings::{Position, next_byte};
 
 // How many bytes are tested at once.
 const BLOCK: usize = 8;
@@ -15,16 +15,7 @@ const BLOCK: usize = 8;
 fn is_short_verbatim(raw: &[u8]) -> bool
     ensures { result ≡ all ordinary_byte raw.now }
 {
-    let mut i = 0usize;
-    while i < raw.len() {
-        let b = raw[i];
-        if is_ordinary(b) {
-            i += 1;
-        } else {
-            return false;
-        }
-    }
-    true
+    raw.iter().all(|b| is_ordinary(*b))
 }
 
 // The same, in blocks: the last one ends with the name.
@@ -37,11 +28,10 @@ pub(crate) fn is_verbatim(raw: &[u8]) -> bool
     let last = raw.len() - BLOCK;
     let mut i = 0usize;
     while i < last {
-        if is_ordinary_block(raw, i) {
-            i += BLOCK;
-        } else {
+        if !is_ordinary_block(raw, i) {
             return false;
         }
+        i += BLOCK;
     }
     is_ordinary_block(raw, last)
 }
@@ -50,14 +40,7 @@ pub(crate) fn is_verbatim(raw: &[u8]) -> bool
 fn is_direct(raw: &[u8], p: Position) -> bool
     ensures { result ≡ direct_at raw.now p }
 {
-    let at = p.at;
-    if p.passed == 0 {
-        if at < raw.len() {
-            return is_ordinary(raw[at]);
-        }
-        return false;
-    }
-    false
+    p.passed == 0 && p.at < raw.len() && is_ordinary(raw[p.at])
 }
 
 // How many bytes a name's decoded text has; limit for that many and more.
@@ -65,24 +48,20 @@ pub(crate) fn decoded_length(raw: &[u8], limit: usize) -> usize
     ensures { result ≡ length (take limit (name_text raw.now)) }
 {
     let mut p = Position { at: 0, passed: 0 };
-    let mut n = 0usize;
-    while n < limit {
+    for n in 0..limit {
         if is_direct(raw, p) {
             p = Position {
                 at: p.at + 1,
                 passed: 0,
             };
-            n += 1;
             continue;
         }
-        let g = next_byte(raw, p);
-        let Stream::Next(b, q) = g else {
+        let Some((_, q)) = next_byte(raw, p) else {
             return n;
         };
         p = q;
-        n += 1;
     }
-    n
+    limit
 }
 
 // A name's decoded text, as much as there is room for, and how many bytes that is.
@@ -92,35 +71,20 @@ pub(crate) fn put_decoded(raw: &[u8], out: &mut [u8]) -> usize
     ensures text { take result out.new ≡ take (length out.old) (name_text raw.now) }
 {
     let mut p = Position { at: 0, passed: 0 };
-    let mut n = 0usize;
-    while n < out.len() {
+    for n in 0..out.len() {
         if is_direct(raw, p) {
-            let at = p.at;
-            out[n] = raw[at];
+            out[n] = raw[p.at];
             p = Position {
-                at: at + 1,
+                at: p.at + 1,
                 passed: 0,
             };
-            n += 1;
             continue;
         }
-        let g = next_byte(raw, p);
-        let Stream::Next(b, q) = g else {
+        let Some((b, q)) = next_byte(raw, p) else {
             return n;
         };
         out[n] = b;
         p = q;
-        n += 1;
     }
-    n
-}
-
-// One of two texts.
-pub(crate) fn either<'a>(first: bool, a: &'a [u8], b: &'a [u8]) -> &'a [u8]
-    ensures { result.now ≡ cond first a.now b.now }
-{
-    if first {
-        return a;
-    }
-    b
+    out.len()
 }

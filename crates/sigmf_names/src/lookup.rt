@@ -5,7 +5,6 @@ ghost use Rattle.sigmf_names.specs.Lookup.{lookup_in};
 ghost use Rattle.sigmf_names.specs.LookupCode.{one_more};
 
 use crate::{AnnotationField, CaptureField, GlobalField, NameLookup, Object};
-use json_blocks::blocks::both;
 use sigmf_values::FieldType;
 
 // A constant that is an array is built anew wherever it is used, a match is not; so the types are a match on a field's number, and the names one on their length.
@@ -15,23 +14,9 @@ pub(crate) fn global_type(i: usize) -> FieldType
     ensures { result ≡ type_at global_fields i }
 {
     match i {
-        0 => FieldType::Text,
-        1 => FieldType::Text,
-        2 => FieldType::Text,
-        3 => FieldType::Text,
-        4 => FieldType::Text,
-        5 => FieldType::Text,
-        6 => FieldType::Text,
-        7 => FieldType::Text,
-        8 => FieldType::Text,
-        9 => FieldType::Text,
-        10 => FieldType::Text,
-        11 => FieldType::Text,
-        12 => FieldType::Uint,
-        13 => FieldType::Uint,
-        14 => FieldType::Uint,
-        15 => FieldType::Double,
-        16 => FieldType::Double,
+        0..=11 => FieldType::Text,
+        12..=14 => FieldType::Uint,
+        15..=16 => FieldType::Double,
         17 => FieldType::Boolean,
         18 => FieldType::Object,
         19 => FieldType::Array,
@@ -44,9 +29,7 @@ pub(crate) fn capture_type(i: usize) -> FieldType
     ensures { result ≡ type_at capture_fields i }
 {
     match i {
-        0 => FieldType::Uint,
-        1 => FieldType::Uint,
-        2 => FieldType::Uint,
+        0..=2 => FieldType::Uint,
         3 => FieldType::Double,
         4 => FieldType::Text,
         5 => FieldType::Object,
@@ -59,55 +42,45 @@ pub(crate) fn annotation_type(i: usize) -> FieldType
     ensures { result ≡ type_at annotation_fields i }
 {
     match i {
-        0 => FieldType::Uint,
-        1 => FieldType::Uint,
-        2 => FieldType::Text,
-        3 => FieldType::Text,
-        4 => FieldType::Text,
-        5 => FieldType::Text,
-        6 => FieldType::Double,
-        7 => FieldType::Double,
-        8 => FieldType::Any,
-        9 => FieldType::Any,
+        0..=1 => FieldType::Uint,
+        2..=5 => FieldType::Text,
+        6..=7 => FieldType::Double,
         _ => FieldType::Any,
     }
 }
 
-// Two texts of one length are equal. No byte ends the loop, so that it is compiled to a comparison of them all.
+// Two texts of one length are equal. No byte ends the loop, so that it is compiled to a comparison of them all; with `a == b` a core name's lookup
+// took a quarter longer.
 fn are_equal(a: &[u8], b: &[u8]) -> bool
     requires { length a.now ≡ length b.now }
     ensures { result ≡ same a.now b.now }
 {
     let mut ok = true;
-    let mut i = 0usize;
-    while i < b.len() {
-        let e = a[i] == b[i];
-        ok = both(ok, e);
-        i += 1;
+    for i in 0..b.len() {
+        ok &= a[i] == b[i];
     }
     ok
 }
 
 // One name more, compared byte for byte with a text of its length: the text is the name of field i, or else what the rest tell.
+#[tactic(auto, unfolding(crate::specs::LookupCode::one_more))]
 fn compare(text: &[u8], name: &[u8], i: usize, rest: NameLookup) -> NameLookup
     requires text_len { length text.now ≡ length name.now }
     requires compared_bound { rest.compared < 20 }
     ensures { result ≡ one_more (same text.now name.now) i rest }
 {
-    let n = rest.compared + 1;
-    if are_equal(text, name) {
-        return NameLookup {
-            number: i,
-            compared: n,
-        };
-    }
     NameLookup {
-        number: rest.number,
-        compared: n,
+        number: if are_equal(text, name) {
+            i
+        } else {
+            rest.number
+        },
+        compared: rest.compared + 1,
     }
 }
 
 // The fields of the global object whose names have a text's length, from the last on.
+#[tactic(auto, unfolding(crate::specs::LookupCode::one_more))]
 fn compare_global(text: &[u8]) -> NameLookup
     ensures { result ≡ lookup_in global_fields text.now }
 {
@@ -151,6 +124,7 @@ fn compare_global(text: &[u8]) -> NameLookup
 }
 
 // The same of a capture.
+#[tactic(auto, unfolding(crate::specs::LookupCode::one_more))]
 fn compare_capture(text: &[u8]) -> NameLookup
     ensures { result ≡ lookup_in capture_fields text.now }
 {
@@ -172,6 +146,7 @@ fn compare_capture(text: &[u8]) -> NameLookup
 }
 
 // The same of an annotation.
+#[tactic(auto, unfolding(crate::specs::LookupCode::one_more))]
 fn compare_annotation(text: &[u8]) -> NameLookup
     ensures { result ≡ lookup_in annotation_fields text.now }
 {
@@ -212,6 +187,7 @@ pub(crate) fn compare_names(kind: Object, text: &[u8]) -> NameLookup
 }
 
 // How many fields of a kind of object are known.
+#[tactic(auto, unfolding(crate::specs::Names::global_fields, crate::specs::Names::capture_fields, crate::specs::Names::annotation_fields))]
 pub(crate) fn core_count(kind: Object) -> usize
     ensures { result ≡ length (core_of kind) }
 {

@@ -5,7 +5,7 @@ ghost use Rattle.sigmf_texts.specs.Texts.{name_text};
 ghost use Rattle.sigmf_names.specs.Names.{core_of, type_at};
 ghost use Rattle.sigmf_names.specs.Lookup.{lookup_answer};
 
-use crate::decoded::{decoded_length, either, is_verbatim, put_decoded};
+use crate::decoded::{decoded_length, is_verbatim, put_decoded};
 use crate::lookup::{annotation_type, capture_type, compare_names, core_count, global_type};
 use crate::{NameLookup, Object};
 use sigmf_values::FieldType;
@@ -20,11 +20,12 @@ fn look_up_short(kind: Object, raw: &[u8], verbatim: bool) -> NameLookup
     ensures { result ≡ lookup_answer kind raw.now }
 {
     let mut room = [0u8; LONGEST];
-    let mut n = 0usize;
-    if !verbatim {
-        n = put_decoded(raw, &mut room);
-    }
-    let text = either(verbatim, raw, &room[..n]);
+    let text = if verbatim {
+        raw
+    } else {
+        let n = put_decoded(raw, &mut room);
+        &room[..n]
+    };
     compare_names(kind, text)
 }
 
@@ -35,13 +36,11 @@ pub fn look_up(kind: Object, raw: &[u8]) -> NameLookup
     ensures { result ≡ lookup_answer kind raw.now }
 {
     let verbatim = is_verbatim(raw);
-    if !verbatim {
-        if decoded_length(raw, LONGEST + 1) > LONGEST {
-            return NameLookup {
-                number: core_count(kind),
-                compared: 0,
-            };
-        }
+    if !verbatim && decoded_length(raw, LONGEST + 1) > LONGEST {
+        return NameLookup {
+            number: core_count(kind),
+            compared: 0,
+        };
     }
     look_up_short(kind, raw, verbatim)
 }

@@ -22,14 +22,13 @@ use Rattle.sigmf_extensions.specs.Extensions.{entries_at, is_malformed, is_neede
 use Rattle.sigmf_extensions.proofs.EntriesLaws.{no_entries}
 use Rattle.sigmf_values.specs.Values.{part_of, is_true}
 use Rattle.sigmf_names.specs.Names.{global_fields, core_at, type_at}
-use Rattle.table.specs.declared.Place.{Place}
 use Rattle.table.specs.declared.Globals.{Globals}
 use Rattle.sigmf_objects.specs.Fields.{fields_at, close_at, value_in, is_absent, uint_or, missing_from, missing}
 use Rattle.sigmf_objects.specs.Places.{noted, Noted, size_as, length_of, size_of, Measured, Fitting, walk_low}
 use Rattle.sigmf_objects.specs.Global.{is_other_version, other_version, datatype_code, is_other_datatype, other_datatype, channels_of, are_bad_channels, bad_channels, entries_of, bad_extension, needs_extension, lacks_dataset, no_dataset, global_rules, rate_place, globals_of, globals_in, read_global}
 use Rattle.sigmf_objects.specs.GlobalPlaces.{placed, first_rules, later_rules, placed_rules}
 use Rattle.sigmf_objects.proofs.WalkLaws.{or_false}
-use Rattle.sigmf_objects.proofs.ValueLaws.{given_none, absent, present, given_some, uint_by_lem}
+use Rattle.sigmf_objects.proofs.ValueLaws.{given_none, absent, present, zero_absent, given_some, uint_by_lem}
 use Rattle.sigmf_objects.proofs.ObjectLaws.{object_low_lem}
 
 -- ---- one place
@@ -87,8 +86,8 @@ module _ (s : List ℕ) (p q : ℕ) where
 
 -- ---- 14
 module _ (s : List ℕ) (p q : ℕ) where
-  pub lacks_none : p ≡ 0 → false ≡ lacks_dataset (noted s p) (noted s q)
-  lacks_none e = given_none s p e false (λ v. is_true v.part || not (is_absent (noted s q)))
+  pub lacks_none : p ≡ 0 → not (eqb p 0) ≡ lacks_dataset (noted s p) (noted s q)
+  lacks_none e = ap (λ (n : ℕ). not (eqb n 0)) e ∙ given_none s p e false (λ v. is_true v.part || not (is_absent (noted s q)))
 
   module _ (f : p ≡ 0 → ⊥) (part : List ℕ) (e : part ≡ part_of s p (skip_value s p)) where
     lacks_is : (is_true part || not (is_absent (noted s q))) ≡ lacks_dataset (noted s p) (noted s q)
@@ -97,12 +96,8 @@ module _ (s : List ℕ) (p q : ℕ) where
     pub lacks_true : is_true part ≡ true → true ≡ lacks_dataset (noted s p) (noted s q)
     lacks_true h = ap (λ (b : Bool). b || not (is_absent (noted s q))) (sym h) ∙ lacks_is
 
-    module _ (h : is_true part ≡ false) where
-      pub lacks_alone : q ≡ 0 → false ≡ lacks_dataset (noted s p) (noted s q)
-      lacks_alone z = ap not (absent s q z) ∙ ap (λ (b : Bool). b || not (is_absent (noted s q))) (sym h) ∙ lacks_is
-
-      pub lacks_beside : (q ≡ 0 → ⊥) → true ≡ lacks_dataset (noted s p) (noted s q)
-      lacks_beside z = ap not (present s q z) ∙ ap (λ (b : Bool). b || not (is_absent (noted s q))) (sym h) ∙ lacks_is
+    pub lacks_other : is_true part ≡ false → not (eqb q 0) ≡ lacks_dataset (noted s p) (noted s q)
+    lacks_other h = ap not (zero_absent s q) ∙ ap (λ (b : Bool). b || not (is_absent (noted s q))) (sym h) ∙ lacks_is
 
 -- ---- 10, and 12 to 14
 module _ (n : ℕ) (es : List Extension) (lacking : Bool) where

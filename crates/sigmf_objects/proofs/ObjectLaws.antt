@@ -1,25 +1,20 @@
 -- A capture and an annotation from the places of their fields.
+use Rattle.std.specs.Prelude.{Option}
 use mathlib.Core.Path.{◌≡◌, refl, sym, ap, ◌∙◌}
-use mathlib.Core.Bool.{Bool, true, false, cond, ◌||◌}
+use mathlib.Core.Bool.{Bool, true, false, cond}
 use mathlib.Core.List.{List, [], ◌∷◌}
-use mathlib.Core.Option.{Option}
-use Prim.Native.Nat.{ℕ, zero, suc, ◌≤◌, ◌<◌, ◌+◌}
+use Prim.Native.Nat.{ℕ, ◌≤◌, ◌<◌}
 use native.Mathlib.Omega.{arith}
 use lib.ListN.{length, get_or, replicate, get_or-replicate, length-replicate, get_or-eq_default}
 use lib.Dec.{ltb, eqb}
 use borrow.Author.Tests.{ltb-true, ltb-false}
-use Rattle.refusals.specs.Refusals.{Rule, rule, lowest, least}
+use Rattle.refusals.specs.Refusals.{rule, lowest, least}
 use Rattle.refusals.proofs.LeastLaws.{least_none, Ascending, rules_of, either, lowest_either}
 use Rattle.json_names.specs.Same.{same}
 use Rattle.sigmf_texts.specs.Lookup.{index_in}
 use Rattle.sigmf_names.specs.Names.{Core, capture_fields, annotation_fields, core_at, type_at}
-use Rattle.table.specs.declared.CaptureEntry.{CaptureEntry}
 use Rattle.table.specs.declared.Place.{Place}
-use Rattle.table.specs.declared.AnnotationEntry.{AnnotationEntry}
-use Rattle.table.specs.declared.Count.{Count}
-use Rattle.sigmf_objects.specs.declared.CaptureFound.{CaptureFound}
-use Rattle.sigmf_objects.specs.declared.AnnotationFound.{AnnotationFound}
-use Rattle.sigmf_objects.specs.Fields.{Value, Field, fields_at, close_at, value_in, is_absent, uint_or, misnamed, missing_from, missing, mistyped}
+use Rattle.sigmf_objects.specs.Fields.{Field, fields_at, close_at, value_in, is_absent, uint_or, misnamed, missing_from, missing, mistyped}
 use Rattle.sigmf_objects.specs.Places.{noted, Noted, size_as, length_of, size_of, Measured, Within, Clear, walk_low}
 use Rattle.sigmf_objects.specs.Capture.{breaks_rule, bad_datetime, capture_rules, read_capture}
 use Rattle.sigmf_objects.specs.Annotation.{count_in, raw_text_place, annotation_rules, read_annotation, count_by, place_by}
@@ -113,7 +108,7 @@ module _ (s : List ℕ) (at : ℕ) (places sizes : List ℕ) (n : Noted s annota
   unfolding missing_from annotation_fields
   annotation_missing = or_false (is_absent (value_in annotation_fields 0 (fields_at s at))) ∙ ap is_absent (sym (annotation_place 0 (omega arith)))
 
-  pub annotation_is : (walk others low : ℕ) (count : Count) (label : Place) (close : ℕ) → walk ≡ walk_low annotation_fields (fields_at s at)
+  pub annotation_is : (walk others low : ℕ) (count : Option ℕ) (label : Place) (close : ℕ) → walk ≡ walk_low annotation_fields (fields_at s at)
       → others ≡ cond (eqb (get_or places 0 0) 0) 6 0 → low ≡ least walk others → count ≡ count_by (get_or places 1 0) (get_or sizes 1 0)
       → label ≡ place_by (get_or places 3 0) (get_or sizes 3 0) → close ≡ close_at s at
       → record { low = low; entry = record { start = get_or sizes 0 0; count = count; texts = record { label = label } }; close = close } ≡ read_annotation s at

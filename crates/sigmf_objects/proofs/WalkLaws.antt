@@ -1,33 +1,30 @@
 -- The walk over the members of an object: what one member adds.
+use Rattle.std.specs.Prelude.{None, Some, Option}
 use mathlib.Core.Path.{◌≡◌, refl, sym, ap, ◌∙◌}
 use mathlib.Core.Bool.{Bool, true, false, cond, not, ◌||◌}
 use mathlib.Core.List.{List, [], ◌∷◌, map}
-use mathlib.Core.Option.{Option, none, some}
+use mathlib.Core.Option.{Option as Maybe, some}
 use Prim.Native.Nat.{ℕ, zero, suc, ◌≤◌, ◌<◌, ◌+◌, ◌-◌}
 use native.Mathlib.Omega.{arith}
+use Rattle.std.specs.Option.{is_some}
+use Rattle.std.proofs.lemmas.Option.{some_pair_parts}
 use lib.ListN.{length, get_or, set, length-set, get_or-eq_default}
 use lib.Seq.{get_or-set_same, get_or-set_other, set_out}
 use lib.Dec.{eqb, ltb}
 use borrow.Author.Tests.{eqb-true, eqb-false, ltb-true, ltb-false, lt-ltb, le-ltb}
-use Rattle.refusals.specs.Refusals.{rule, lowest, least}
+use Rattle.refusals.specs.Refusals.{lowest, least}
 use Rattle.refusals.proofs.LeastLaws.{least_none, least_unit, least_assoc, Ascending, rules_of, either, lowest_either}
 use Rattle.json_blocks.specs.TextBytes.{byte, blank, skip_blanks}
 use Rattle.json_blocks.specs.Group.{colon_at}
 use Rattle.json_blocks.specs.declared.Cursor.{Cursor}
-use Rattle.json_blocks.specs.declared.Read.{Read}
-use Rattle.json_blocks.specs.declared.Read.TheVariants as R
 use Rattle.json_blocks.proofs.ByteLaws.{inside, cond_elim, good_inside, no_blank, skip_on, skip_out, blanks_onward}
 use Rattle.json_grammar.specs.Skip.{skip_string, skip_value}
 use Rattle.json_walk.specs.declared.Member.{Member}
-use Rattle.json_walk.specs.declared.MemberStep.{MemberStep}
-use Rattle.json_walk.specs.declared.MemberStep.TheVariants as M
 use Rattle.json_walk.specs.Members.{member_to, member_step, member_found, members_from, members_end_from, members_end}
 use Rattle.json_walk.proofs.StepLaws.{member_steps, members_none}
 use Rattle.json_walk.proofs.EndLaws.{members_found, members_over, members_end_found, members_end_over, member_places}
 use Rattle.json_strings.specs.declared.Position.{Position}
 use Rattle.json_strings.specs.Stream.{stream}
-use Rattle.sigmf_texts.specs.declared.NameForm.{NameForm}
-use Rattle.sigmf_texts.specs.declared.NameForm.TheVariants as F
 use Rattle.sigmf_texts.specs.Texts.{name_text}
 use Rattle.sigmf_texts.specs.Lookup.{index_in}
 use Rattle.sigmf_texts.specs.Form.{form_ok, form_of, part_after}
@@ -36,7 +33,6 @@ use Rattle.sigmf_names.specs.declared.Object.{Object}
 use Rattle.sigmf_names.specs.declared.Object.TheVariants as O
 use Rattle.sigmf_values.specs.declared.FieldType.{FieldType}
 use Rattle.sigmf_values.specs.declared.FieldType.TheVariants as T
-use Rattle.sigmf_values.specs.declared.Uint.{Uint}
 use Rattle.sigmf_values.specs.Values.{part_of, has_type, uint_of}
 use Rattle.sigmf_values.specs.ValueCode.{is_value}
 use Rattle.sigmf_values.proofs.ValueLaws.{uint_typed}
@@ -90,16 +86,28 @@ module _ (cs : List Core) (f : Field) where
 
 -- the member of the code, of field i, by its parts
 module _ (kind : Object) (s : List ℕ) (m : Member) (i known : ℕ) (ei : i ≡ number_in (core_of kind) (field_of s m)) (ek : known ≡ length (core_of kind)) where
-  module _ (raw : List ℕ) (er : raw ≡ part_of s m.name m.quote) (f : NameForm) (ef : part_after raw f ≡ form_of (name_text raw)) where
-    pub member_bad : f ≡ F.Bad → 5 ≡ walk_low (core_of kind) (field_of s m ∷ [])
-    member_bad e =
+  module _ (raw : List ℕ) (er : raw ≡ part_of s m.name m.quote) (f : Option Position) (ef : part_after raw f ≡ form_of (name_text raw)) where
+    formless : f ≡ None → 5 ≡ walk_low (core_of kind) (field_of s m ∷ [])
+    formless e =
         low_misnamed (core_of kind) (field_of s m)
         (unformed (member_name s m) (ap (part_after raw) (sym e) ∙ ef ∙ ap (λ (x : List ℕ). form_of (name_text x)) er))
 
-    pub member_unknown : (p : Position) → f ≡ F.After p → known ≤ i → 0 ≡ walk_low (core_of kind) (field_of s m ∷ [])
-    member_unknown p e h =
+    in_form : (p : Position) → f ≡ Some p → known ≤ i → 0 ≡ walk_low (core_of kind) (field_of s m ∷ [])
+    in_form p e h =
         low_unknown (core_of kind) (field_of s m)
         (formed (member_name s m) (stream raw p) (ap (part_after raw) (sym e) ∙ ef ∙ ap (λ (x : List ℕ). form_of (name_text x)) er)) (omega arith)
+
+    pub member_bad : is_some f ≡ false → 5 ≡ walk_low (core_of kind) (field_of s m ∷ [])
+    member_bad h = go f refl h where
+      go : (x : Option Position) → f ≡ x → is_some x ≡ false → 5 ≡ walk_low (core_of kind) (field_of s m ∷ [])
+      go None e h = formless e
+      go (Some p) e h = cc
+
+    pub member_unknown : is_some f ≡ true → known ≤ i → 0 ≡ walk_low (core_of kind) (field_of s m ∷ [])
+    member_unknown h l = go f refl h where
+      go : (x : Option Position) → f ≡ x → is_some x ≡ true → 0 ≡ walk_low (core_of kind) (field_of s m ∷ [])
+      go None e h = cc
+      go (Some p) e h = in_form p e l
 
   module _ (h : i < known) (wanted : FieldType) (ew : wanted ≡ type_at (core_of kind) i) (value : List ℕ) (ev : value ≡ part_of s m.value m.end) where
     name : form_ok (member_name s m) ≡ true
@@ -111,9 +119,6 @@ module _ (kind : Object) (s : List ℕ) (m : Member) (i known : ℕ) (ei : i ≡
         ∙ ap (λ (x : FieldType). cond (has_type x (member_value s m)) 0 7) (ew ∙ ap (type_at (core_of kind)) ei)
         ∙ low_known (core_of kind) (field_of s m) name
 
-    pub member_size : (n : ℕ) → n ≡ size_as wanted value → n ≡ size_as (type_at (core_of kind) i) (member_value s m)
-    member_size n en = en ∙ ap (size_as wanted) ev ∙ ap (λ (x : FieldType). size_as x (member_value s m)) ew
-
 -- ---- a part of a wanted type
 module _ (t : FieldType) (p : List ℕ) where
   module _ (b : Bool) (e : b ≡ has_type t p) where
@@ -123,10 +128,10 @@ module _ (t : FieldType) (p : List ℕ) where
     pub part_mistyped : b ≡ false → ◌≡◌ {A = ℕ} 7 (cond (has_type t p) 0 7)
     part_mistyped h = ap (λ (x : Bool). cond x 0 7) (sym h ∙ e)
 
-  module _ (et : t ≡ T.Uint) (u : Uint) (eu : u ≡ uint_of p) where
+  module _ (et : t ≡ T.Uint) (u : Option ℕ) (eu : u ≡ uint_of p) where
     pub uint_low : ◌≡◌ {A = ℕ} (cond (is_value u) 0 7) (cond (has_type t p) 0 7)
     unfolding has_type
-    uint_low = ap (λ (x : Uint). cond (is_value x) 0 7) eu ∙ ap (λ (x : Bool). cond x 0 7) (uint_typed p) ∙ ap (λ (x : FieldType). cond (has_type x p) 0 7) (sym et)
+    uint_low = ap (λ (x : Option ℕ). cond (is_value x) 0 7) eu ∙ ap (λ (x : Bool). cond x 0 7) (uint_typed p) ∙ ap (λ (x : FieldType). cond (has_type x p) 0 7) (sym et)
 
     pub uint_size : uint_number u ≡ size_as t p
     unfolding size_as
@@ -192,33 +197,34 @@ blanks_within s (suc n) i h l = go (blank (byte s i)) refl (λ k. blanks_within 
       omega (arith, f (omega arith), skip_on blank no_blank s i (byte s i) refl q)
   go false q f = omega (arith, skip_out blank no_blank s i (byte s i) refl q)
 
-colon_within : (s : List ℕ) (e : ℕ) (v : Cursor) → colon_at s e ≡ R.To v → v.at ≤ length s
+colon_within : (s : List ℕ) (e : ℕ) (v : Cursor) → colon_at s e ≡ Some v → v.at ≤ length s
 unfolding colon_at
 colon_within s e v h =
-    cond_elim (λ (x : Read). x ≡ R.To v → v.at ≤ length s) (eqb (byte s (skip_blanks s e)) 0x3A) _ _
+    cond_elim (λ (x : Option Cursor). x ≡ Some v → v.at ≤ length s) (eqb (byte s (skip_blanks s e)) 0x3A) _ _
     (λ q g.
     let f : skip_blanks s (skip_blanks s e + 1) ≡ v.at = cc in
     let l = inside s (skip_blanks s e) 0x3A (sym (eqb-true _ _ q)) (omega arith) in
     rw (← f) (blanks_within s (suc (length s)) (skip_blanks s e + 1) (omega arith) (omega arith)))
-    (λ _ g. let z : ◌≡◌ {A = ℕ} 0 1 = cc in absurd (omega arith)) h
+    (λ _ g. cc) h
 
 -- ---- the value of a member ends where its brackets and quotes say
 pub record MemberValue (s : List ℕ) (m : Member) : Type 0 where
   pub end : m.end ≡ skip_value s m.value
   pub within : m.value ≤ length s
 
-member_value_lem : (s : List ℕ) (i : ℕ) (m : Member) (j : ℕ) → member_step s i ≡ M.Found m j → MemberValue s m
+member_value_lem : (s : List ℕ) (i : ℕ) (m : Member) (j : ℕ) → member_step s i ≡ Some (m, j) → MemberValue s m
 unfolding member_step
 member_value_lem s i m j e =
-    cond_elim (λ (x : MemberStep). x ≡ M.Found m j → MemberValue s m) (eqb (byte s i) 0x22) _ _
-    (λ _. to (colon_at s (skip_string s (i + 1))) refl) (λ _ h. let z : ◌≡◌ {A = ℕ} 0 1 = cc in absurd (omega arith)) e
+    cond_elim (λ (x : Option (Member × ℕ)). x ≡ Some (m, j) → MemberValue s m) (eqb (byte s i) 0x22) _ _
+    (λ _. to (colon_at s (skip_string s (i + 1))) refl) (λ _ h. cc) e
   where
-    to : (r : Read) → colon_at s (skip_string s (i + 1)) ≡ r → member_to s i (skip_string s (i + 1)) r ≡ M.Found m j → MemberValue s m
-    to (R.To v) p h =
+    to : (r : Option Cursor) → colon_at s (skip_string s (i + 1)) ≡ r → member_to s i (skip_string s (i + 1)) r ≡ Some (m, j) → MemberValue s m
+    to (Some v) p h =
+        let q = (some_pair_parts _ _ _ _ h).0 in
         let ev : v.at ≡ m.value = cc in
         let ee : skip_value s v.at ≡ m.end = cc in
         record { end = sym ee ∙ ap (skip_value s) ev; within = rw (← ev) (colon_within s (skip_string s (i + 1)) v p) }
-    to R.Bad p h = let z : ◌≡◌ {A = ℕ} 0 1 = cc in absurd (omega arith)
+    to None p h = cc
 
 -- ---- where the members of an object inside the text end
 pub close_inside : (s : List ℕ) (at : ℕ) → at < length s → close_at s at ≡ members_end s at
@@ -250,7 +256,7 @@ module _ (s : List ℕ) (cs : List Core) where
   }
 
   module _ (start at low : ℕ) (places sizes : List ℕ) (w : Walking s cs start at low places sizes) where
-    module _ (m : Member) (j : ℕ) (e : member_step s at ≡ M.Found m j) where
+    module _ (m : Member) (j : ℕ) (e : member_step s at ≡ Some (m, j)) where
       from : fields_from s at ≡ field_of s m ∷ fields_from s j
       from = ap (map (field_of s)) (members_found s at m j e)
 
@@ -286,7 +292,7 @@ module _ (s : List ℕ) (cs : List Core) where
         close = sym (members_end_found s at m j e) ∙ w.close;
         values =
             λ k h.
-            ap (λ (z : Option Value). value_from cs k z (fields_from s j))
+            ap (λ (z : Maybe Value). value_from cs k z (fields_from s j))
             (sym (noted_set s places n m.value m.end (rw en slot) (omega (arith, (member_places s at m j e).value)) (member_value_lem s at m j e).end k)
             ∙ ap (λ (x : ℕ). cond (eqb x k) (some (field_of s m).value) (noted s (get_or places k 0))) en)
             ∙ ap (value_from cs k (noted s (get_or places k 0))) (sym from)
@@ -300,7 +306,7 @@ module _ (s : List ℕ) (cs : List Core) where
         size_slots = length-set sizes n z ∙ w.size_slots;
       }
 
-    module _ (e : member_step s at ≡ M.End) where
+    module _ (e : member_step s at ≡ None) where
       over : fields_from s at ≡ []
       over = ap (map (field_of s)) (members_over s at e)
 

@@ -1,13 +1,11 @@
 -- Document 01, "The JSON text" and "Fields": the members of one global, capture or annotation object, and the conditions 5, 6 and 7
 -- as they speak of one object.
-use Rattle.std.specs.Prelude.{Bool, true, false, cond, not, ◌&&◌, ◌||◌, List, [], ◌∷◌, map, ℕ, suc, length, eqb, ltb}
-use Rattle.std.proofs.Math.Option.{Option, none, some}
+use Rattle.std.specs.Prelude.{Bool, true, false, cond, not, ◌&&◌, ◌||◌, List, [], ◌∷◌, map, ℕ, suc, length, eqb, ltb, None, Some, Option}
+use Rattle.std.proofs.Math.Option.{Option as Maybe, none, some}
 use Rattle.json_walk.specs.declared.Member.{Member}
 use Rattle.json_walk.specs.Members.{members_at, members_end}
 use Rattle.sigmf_texts.specs.Lookup.{index_in}
 use Rattle.sigmf_texts.specs.Form.{form_ok}
-use Rattle.sigmf_values.specs.declared.Uint.{Uint}
-use Rattle.sigmf_values.specs.declared.Uint.TheVariants as U
 use Rattle.sigmf_values.specs.Values.{uint_of, has_type}
 use Rattle.sigmf_names.specs.Names.{Core, core_name, type_at}
 use Rattle.sigmf_extensions.specs.Extensions.{member_name, member_value}
@@ -39,31 +37,31 @@ abbrev pub number_in : List Core → Field → ℕ
 number_in cs f = index_in core_name cs f.name
 
 -- the value of the field that is sought, z if there is none; no name stands twice (3), and if one did the later would count
-unfoldable pub last_where : (Field → Bool) → Option Value → List Field → Option Value
+unfoldable pub last_where : (Field → Bool) → Maybe Value → List Field → Maybe Value
 last_where sought z [] = z
 last_where sought z (f ∷ fs) = last_where sought (cond (sought f) (some f.value) z) fs
 
 -- the known field i
-abbrev pub value_from : List Core → ℕ → Option Value → List Field → Option Value
+abbrev pub value_from : List Core → ℕ → Maybe Value → List Field → Maybe Value
 value_from cs i = last_where (λ f. eqb (number_in cs f) i)
 
-abbrev pub value_in : List Core → ℕ → List Field → Option Value
+abbrev pub value_in : List Core → ℕ → List Field → Maybe Value
 value_in cs i fs = value_from cs i none fs
 
 -- what f says of a value that is there, or z
-abbrev pub given : {A : Type 0} → A → (Value → A) → Option Value → A
+abbrev pub given : {A : Type 0} → A → (Value → A) → Maybe Value → A
 given z f none = z
 given z f (some v) = f v
 
-abbrev pub is_absent : Option Value → Bool
+abbrev pub is_absent : Maybe Value → Bool
 is_absent v = given true (λ _. false) v
 
 -- the number of a uint, or z where it is absent
-abbrev pub uint_number : Uint → ℕ
-uint_number (U.Value n) = n
-uint_number U.Bad = 0
+abbrev pub uint_number : Option ℕ → ℕ
+uint_number (Some n) = n
+uint_number None = 0
 
-abbrev pub uint_or : ℕ → Option Value → ℕ
+abbrev pub uint_or : ℕ → Maybe Value → ℕ
 uint_or z v = given z (λ v. uint_number (uint_of v.part)) v
 
 -- 5: "a field name in global, a capture or an annotation has the wrong form"

@@ -1,5 +1,5 @@
 -- Document 01, "Fields": the global object, and refusals 5 to 10 and 12 to 14 as it gives cause for them. g is its members.
-use Rattle.std.specs.Prelude.{Bool, true, false, not, ◌||◌, List, [], ◌∷◌, ℕ, length}
+use Rattle.std.specs.Prelude.{Bool, false, not, ◌||◌, List, [], ◌∷◌, ℕ, length}
 use Rattle.std.proofs.Math.Option.{Option}
 use Prim.Native.String.{String}
 use Rattle.limits.specs.Limits.{channels}

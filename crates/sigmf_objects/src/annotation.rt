@@ -7,7 +7,7 @@ use crate::AnnotationFound;
 use crate::walk::find_fields;
 use refusals::least;
 use sigmf_names::{AnnotationField, Object};
-use table::{AnnotationEntry, Count, Place, Texts};
+use table::{AnnotationEntry, Place, Texts};
 
 // The text at a place; n is how many bytes it has with its quotes.
 fn raw_text(place: usize, n: u64) -> Place
@@ -17,34 +17,24 @@ fn raw_text(place: usize, n: u64) -> Place
     if place == 0 {
         return Place { at: 0, len: 0 };
     }
-    let first = (place + 1) as u64;
-    if n < 2 {
-        return Place { at: first, len: 0 };
-    }
     Place {
-        at: first,
-        len: n - 2,
+        at: place as u64 + 1,
+        len: n.saturating_sub(2),
     }
 }
 
 // The count at a place; n is its number.
-fn count_at(place: usize, n: u64) -> Count
+fn count_at(place: usize, n: u64) -> Option<u64>
     ensures { result ≡ count_by place n }
 {
-    if place == 0 {
-        return Count::Absent;
-    }
-    Count::Given(n)
+    if place == 0 { None } else { Some(n) }
 }
 
 // 6 where sample_start has no place.
 fn place_low(start: usize) -> u64
     ensures { result ≡ cond (eqb start 0) 6 0 }
 {
-    if start == 0 {
-        return 6;
-    }
-    0
+    if start == 0 { 6 } else { 0 }
 }
 
 // The annotation at a place.
@@ -67,8 +57,8 @@ pub fn read_annotation(s: &[u8], at: usize) -> AnnotationFound
         low: least(w.low, low),
         entry: AnnotationEntry {
             start: sizes[AnnotationField::SAMPLE_START],
-            count: count,
-            texts: Texts { label: label },
+            count,
+            texts: Texts { label },
         },
         close: w.close,
     }

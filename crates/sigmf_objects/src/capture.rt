@@ -9,7 +9,6 @@ use crate::CaptureFound;
 use crate::value::sized_part;
 use crate::walk::find_fields;
 use refusals::least;
-use sigmf_datetimes::Datetime;
 use sigmf_datetimes::datetimes::datetime;
 use sigmf_names::{CaptureField, Object};
 use table::CaptureEntry;
@@ -25,12 +24,11 @@ fn places_low(s: &[u8], start: usize, moment: usize, n: u64) -> u64
     if moment == 0 {
         return 0;
     }
-    let part = sized_part(s, moment, n);
-    let d = datetime(part);
-    let Datetime::At(_, _, _) = d else {
-        return 11;
-    };
-    0
+    if datetime(sized_part(s, moment, n)).is_some() {
+        0
+    } else {
+        11
+    }
 }
 
 // The capture at a place.

@@ -27,8 +27,7 @@ fn code_at(s: &[u8], place: usize, n: u64) -> u64
     if place == 0 {
         return Datatypes::COUNT;
     }
-    let part = sized_part(s, place, n);
-    datatype(part)
+    datatype(sized_part(s, place, n))
 }
 
 // What the places of datatype and version tell of 6, 8 and 9; n is how many bytes the version has with its quotes.
@@ -37,20 +36,13 @@ fn first_low(s: &[u8], place: usize, code: u64, version: usize, n: u64) -> u64
     requires n_value { n ≡ length_of (noted s.now version) }
     ensures { result ≡ lowest (first_rules (noted s.now place) (noted s.now version)) }
 {
-    if place == 0 {
+    if place == 0 || version == 0 {
         return 6;
     }
-    if version == 0 {
-        return 6;
+    if !is_version(sized_part(s, version, n)) {
+        return 8;
     }
-    let part = sized_part(s, version, n);
-    if is_version(part) {
-        if is_listed(code) {
-            return 0;
-        }
-        return 9;
-    }
-    8
+    if is_listed(code) { 0 } else { 9 }
 }
 
 // metadata_only, of n bytes, is true, or stands beside dataset.
@@ -58,17 +50,7 @@ fn lacks_dataset(s: &[u8], only: usize, n: u64, dataset: usize) -> bool
     requires { n ≡ length_of (noted s.now only) }
     ensures { result ≡ lacks_dataset (noted s.now only) (noted s.now dataset) }
 {
-    if only == 0 {
-        return false;
-    }
-    let part = sized_part(s, only, n);
-    if is_true(part) {
-        return true;
-    }
-    if dataset == 0 {
-        return false;
-    }
-    true
+    only != 0 && (is_true(sized_part(s, only, n)) || dataset != 0)
 }
 
 // What the entries of core:extensions at a place tell of 12 and 13.
@@ -76,9 +58,10 @@ fn entries_low(s: &[u8], place: usize) -> u64
     ensures { result ≡ lowest (entries_rules (entries_of s.now (noted s.now place))) }
 {
     if place == 0 {
-        return 0;
+        0
+    } else {
+        entries_refusal(s, place)
     }
-    entries_refusal(s, place)
 }
 
 // What the number of channels and the places of extensions, metadata_only, of n bytes, and dataset tell of 10 and of 12 to 14.
@@ -86,20 +69,15 @@ fn later_low(s: &[u8], channels: u64, entries: usize, only: usize, n: u64, datas
     requires { n ≡ length_of (noted s.now only) }
     ensures { result ≡ lowest (later_rules channels (entries_of s.now (noted s.now entries)) (lacks_dataset (noted s.now only) (noted s.now dataset))) }
 {
-    if channels < 1 {
+    if channels < 1 || Limits::CHANNELS < channels {
         return 10;
     }
-    if Limits::CHANNELS < channels {
-        return 10;
+    let low = entries_low(s, entries);
+    if low == 0 && lacks_dataset(s, only, n, dataset) {
+        14
+    } else {
+        low
     }
-    let l = entries_low(s, entries);
-    if l == 0 {
-        if lacks_dataset(s, only, n, dataset) {
-            return 14;
-        }
-        return 0;
-    }
-    l
 }
 
 // What all places and sizes, by the fields' numbers, tell of 6 and of 8 to 14.

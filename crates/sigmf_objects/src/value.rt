@@ -8,21 +8,12 @@ use sigmf_values::value::part_of;
 pub(crate) fn sized_part(s: &[u8], place: usize, n: u64) -> &[u8]
     ensures { result.now ≡ part_of s.now place (place + n) }
 {
-    if s.len() <= place {
-        return part_of(s, place, place);
-    }
-    if ((s.len() - place) as u64) < n {
-        return part_of(s, place, s.len());
-    }
-    part_of(s, place, place + n as usize)
+    part_of(s, place, place.saturating_add(n as usize))
 }
 
 // The uint at a place, whose number is n, or z without a value.
 pub(crate) fn uint_or(z: u64, place: usize, n: u64) -> u64
     ensures { result ≡ cond (eqb place 0) z n }
 {
-    if place == 0 {
-        return z;
-    }
-    n
+    if place == 0 { z } else { n }
 }

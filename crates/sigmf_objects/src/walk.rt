@@ -7,14 +7,13 @@ ghost use Rattle.sigmf_objects.specs.Fields.{field_of, fields_at, close_at, numb
 ghost use Rattle.sigmf_objects.specs.Places.{Clear, Noted, Measured, Within, size_as, walk_low};
 
 use json_blocks::Cursor;
-use json_walk::{Member, MemberStep, next_member};
+use json_walk::{Member, next_member};
 use refusals::least;
 use sigmf_names::Object;
 use sigmf_names::names::{field_type, look_up};
-use sigmf_texts::NameForm;
 use sigmf_texts::form::name_form;
+use sigmf_values::FieldType;
 use sigmf_values::value::{has_type, part_of, uint};
-use sigmf_values::{FieldType, Uint};
 
 // The lower of 5 and 7 that the members give cause for, 0 for none, and where they end.
 #[derive(Clone, Copy)]
@@ -35,18 +34,16 @@ fn value_sized(wanted: FieldType, part: &[u8]) -> Sized
     ensures low { result.low ≡ cond (has_type wanted part.now) 0 7 }
     ensures size { result.size ≡ size_as wanted part.now }
 {
-    let FieldType::Uint = wanted else {
-        let n = part.len() as u64;
-        if has_type(wanted, part) {
-            return Sized { low: 0, size: n };
-        }
-        return Sized { low: 7, size: n };
-    };
-    let u = uint(part);
-    let Uint::Value(n) = u else {
-        return Sized { low: 7, size: 0 };
-    };
-    Sized { low: 0, size: n }
+    match wanted {
+        FieldType::Uint => match uint(part) {
+            Some(size) => Sized { low: 0, size },
+            None => Sized { low: 7, size: 0 },
+        },
+        _ => Sized {
+            low: if has_type(wanted, part) { 0 } else { 7 },
+            size: part.len() as u64,
+        },
+    }
 }
 
 // A member of field i: a known name has the form, and an unknown one takes any type.
@@ -57,16 +54,13 @@ fn member_sized(kind: Object, s: &[u8], m: Member, i: usize, known: usize) -> Si
     ensures size { i < known → result.size ≡ size_as (type_at (core_of kind) i) (member_value s.now m) }
 {
     if known <= i {
-        let raw = part_of(s, m.name, m.quote);
-        let f = name_form(raw);
-        let NameForm::After(_) = f else {
-            return Sized { low: 5, size: 0 };
+        let form = name_form(part_of(s, m.name, m.quote));
+        return Sized {
+            low: if form.is_some() { 0 } else { 5 },
+            size: 0,
         };
-        return Sized { low: 0, size: 0 };
     }
-    let wanted = field_type(kind, i);
-    let value = part_of(s, m.value, m.end);
-    value_sized(wanted, value)
+    value_sized(field_type(kind, i), part_of(s, m.value, m.end))
 }
 
 // The members of the object at a place. Slot i of places becomes the place of field i's value, slot i of sizes its size, and both
@@ -94,21 +88,15 @@ pub(crate) fn find_fields(
     if s.len() <= at {
         return Walked { low: 0, close: at };
     }
-    let c = Cursor { at: at + 1 }.skip_indent(s);
-    let mut j = c.at;
-    let mut low = 0u64;
-    loop {
-        let g = next_member(s, j);
-        let MemberStep::Found(m, next) = g else {
-            return Walked { low: low, close: j };
-        };
-        let raw = part_of(s, m.name, m.quote);
-        let found = look_up(kind, raw);
-        let i = found.number;
-        let l = member_sized(kind, s, m, i, known);
-        low = least(low, l.low);
+    let mut j = Cursor { at: at + 1 }.skip_indent(s).at;
+    let mut low = 0;
+    while let Some((m, next)) = next_member(s, j) {
+        let i = look_up(kind, part_of(s, m.name, m.quote)).number;
+        let sized = member_sized(kind, s, m, i, known);
+        low = least(low, sized.low);
         places[i] = m.value;
-        sizes[i] = l.size;
+        sizes[i] = sized.size;
         j = next;
     }
+    Walked { low, close: j }
 }

@@ -1,69 +1,31 @@
 -- Steps of the definitions of specs/Form.antt, on plain variables.
+use Rattle.std.specs.Prelude.{None, Option, Some}
 use mathlib.Core.Path.{◌≡◌, refl, sym, ap, ◌∙◌}
-use mathlib.Core.Bool.{Bool, true, false, cond, not, ◌&&◌}
+use mathlib.Core.Bool.{Bool, true, false, cond, ◌&&◌}
 use mathlib.Core.List.{List, [], ◌∷◌}
 use Prim.Native.Nat.{ℕ}
 use lib.Dec.{eqb}
-use borrow.Author.Tests.{eq-eqb, ne_eqb}
 use Rattle.json_blocks.specs.Lists.{all}
-use Rattle.json_tokens.specs.Number.{digit}
 use Rattle.json_strings.specs.declared.Position.{Position}
 use Rattle.json_strings.specs.Stream.{stream}
 use Rattle.refusals.specs.Answer.{Answer, accepted, refused}
-use Rattle.sigmf_texts.specs.declared.NameForm.{NameForm}
-use Rattle.sigmf_texts.specs.declared.NameForm.TheVariants as F
 use Rattle.sigmf_texts.specs.Form.{name_byte, namespace_byte, begun, namespace_of, after_colon, form_ok, form_of, part_after}
 use Rattle.sigmf_texts.specs.FormCode.{past_space}
 
 -- ---- a text x, at its end or from its next byte on
 module _ (x : List ℕ) where
-  pub begun_end : x ≡ [] → false ≡ begun x
-  begun_end e = rw e
-
-  pub space_end : x ≡ [] → false ≡ begun (namespace_of x)
-  unfolding namespace_of
-  space_end e = rw e
-
-  pub past_end : x ≡ [] → refused 5 ≡ past_space x
-  unfolding past_space
-  past_end e = rw e
-
   pub all_end : (good : ℕ → Bool) → x ≡ [] → true ≡ all good x
   unfolding all
   all_end good e = rw e
 
-  module _ (b : ℕ) (y : List ℕ) (e : x ≡ b ∷ y) where
-    pub begun_is : (t : Bool) → digit b ≡ t → not t ≡ begun x
-    begun_is t d = rw (e, d)
+  module _ (b : ℕ) (y : List ℕ) (e : x ≡ b ∷ y) (good : ℕ → Bool) where
+    pub all_on : good b ≡ true → all good y ≡ all good x
+    unfolding all
+    all_on t = rw (e, t)
 
-    pub space_colon : b ≡ 0x3A → false ≡ begun (namespace_of x)
-    unfolding namespace_of
-    space_colon h = rw (e, eq-eqb _ _ h)
-
-    pub space_is : (t : Bool) → (b ≡ 0x3A → ⊥) → digit b ≡ t → not t ≡ begun (namespace_of x)
-    unfolding namespace_of
-    space_is t h d = rw (e, ne_eqb _ _ h, d)
-
-    pub past_colon : b ≡ 0x3A → accepted y ≡ past_space x
-    unfolding past_space
-    past_colon h = rw (e, eq-eqb _ _ h)
-
-    pub past_on : (b ≡ 0x3A → ⊥) → namespace_byte b ≡ true → past_space y ≡ past_space x
-    unfolding past_space
-    past_on h t = rw (e, ne_eqb _ _ h, t)
-
-    pub past_not : (b ≡ 0x3A → ⊥) → namespace_byte b ≡ false → refused 5 ≡ past_space x
-    unfolding past_space
-    past_not h t = rw (e, ne_eqb _ _ h, t)
-
-    module _ (good : ℕ → Bool) where
-      pub all_on : good b ≡ true → all good y ≡ all good x
-      unfolding all
-      all_on t = rw (e, t)
-
-      pub all_not : good b ≡ false → false ≡ all good x
-      unfolding all
-      all_not t = rw (e, t)
+    pub all_not : good b ≡ false → false ≡ all good x
+    unfolding all
+    all_not t = rw (e, t)
 
 -- ---- the namespace and then the part
 abbrev then_part : Answer (List ℕ) → Answer (List ℕ)
@@ -87,17 +49,17 @@ module _ (d : List ℕ) where
   unfolding form_of form_ok
   form_1 h = rw h
 
-  module _ (h : begun (namespace_of d) ≡ true) (raw : List ℕ) (f : NameForm) (ef : part_after raw f ≡ past_space d) where
+  module _ (h : begun (namespace_of d) ≡ true) (raw : List ℕ) (f : Option Position) (ef : part_after raw f ≡ past_space d) where
     split : then_part (part_after raw f) ≡ form_of d
     unfolding form_of form_ok
     split = ap then_part ef ∙ sym (rw h (past_is d))
 
-    pub form_2 : f ≡ F.Bad → refused 5 ≡ form_of d
-    form_2 e = sym (ap (λ (g : NameForm). then_part (part_after raw g)) e) ∙ split
+    pub form_2 : f ≡ None → refused 5 ≡ form_of d
+    form_2 e = sym (ap (λ (g : Option Position). then_part (part_after raw g)) e) ∙ split
 
-    module _ (p : Position) (e : f ≡ F.After p) where
+    module _ (p : Position) (e : f ≡ Some p) where
       part : then_part (accepted (stream raw p)) ≡ form_of d
-      part = sym (ap (λ (g : NameForm). then_part (part_after raw g)) e) ∙ split
+      part = sym (ap (λ (g : Option Position). then_part (part_after raw g)) e) ∙ split
 
       pub form_3 : begun (stream raw p) ≡ false → refused 5 ≡ form_of d
       form_3 b = sym (rw b) ∙ part

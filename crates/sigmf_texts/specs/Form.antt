@@ -1,12 +1,11 @@
 -- The form of a field name (document 01, "Fields"). d is the decoded name.
-use Rattle.std.specs.Prelude.{Bool, false, cond, not, ◌&&◌, ◌||◌, List, [], ◌∷◌, ℕ, eqb}
+use Rattle.json_strings.specs.declared.Position.{Position}
+use Rattle.std.specs.Prelude.{Bool, false, cond, not, ◌&&◌, ◌||◌, List, [], ◌∷◌, ℕ, eqb, None, Option, Some}
 use Rattle.json_blocks.specs.TextBytes.{within}
 use Rattle.json_blocks.specs.Lists.{all}
 use Rattle.json_tokens.specs.Number.{digit}
 use Rattle.json_strings.specs.Stream.{stream}
 use Rattle.refusals.specs.Answer.{Answer, accepted, refused}
-use Rattle.sigmf_texts.specs.declared.NameForm.{NameForm}
-use Rattle.sigmf_texts.specs.declared.NameForm.TheVariants as F
 
 -- "of ASCII letters, digits and `_`"
 unfoldable pub name_byte : ℕ → Bool
@@ -39,6 +38,6 @@ unfoldable pub form_of : List ℕ → Answer (List ℕ)
 form_of d = cond (form_ok d) (accepted (after_colon d)) (refused 5)
 
 -- what an answer says of a raw name: the decoded text from its position on is the part
-abbrev pub part_after : List ℕ → NameForm → Answer (List ℕ)
-part_after raw (F.After p) = accepted (stream raw p)
-part_after raw F.Bad = refused 5
+abbrev pub part_after : List ℕ → Option Position → Answer (List ℕ)
+part_after raw (Some p) = accepted (stream raw p)
+part_after raw None = refused 5

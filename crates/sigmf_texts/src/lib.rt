@@ -8,15 +8,7 @@ ghost use Rattle.std.specs.Prelude.{◌≡◌};
 ghost use Rattle.sigmf_texts.specs.Texts.{value_text, version_ok, code_of};
 
 use json_names::text_is;
-use json_strings::Position;
-use sigmf_datatypes::{is_listed, name, name_length};
-
-// Where the part after the colon of a name begins; or that the name has another form.
-#[derive(Clone, Copy)]
-pub enum NameForm {
-    After(Position),
-    Bad,
-}
+use sigmf_datatypes::{Datatypes, name_bytes};
 
 // A version that can be read.
 pub fn is_version(part: &[u8]) -> bool
@@ -29,14 +21,10 @@ pub fn is_version(part: &[u8]) -> bool
 pub fn datatype(part: &[u8]) -> u64
     ensures { result ≡ code_of (value_text part.now) }
 {
-    let mut code = 0u64;
-    while is_listed(code) {
-        let word = name(code);
-        let n = name_length(code);
-        if text_is(part, 1, &word[..n]) {
+    for code in 0..Datatypes::COUNT {
+        if text_is(part, 1, name_bytes(code)) {
             return code;
         }
-        code += 1;
     }
-    code
+    Datatypes::COUNT
 }

@@ -1,12 +1,10 @@
 -- The type of one value, "judged on the part of the text that holds it, and on no other byte" (document 01, "The JSON text"):
 -- p is that part, from the value's first byte to its last.
-use Rattle.std.specs.Prelude.{Bool, true, cond, not, ◌&&◌, ◌||◌, List, ℕ, ◌-◌, ◌^◌, min, length, eqb, ltb}
+use Rattle.std.specs.Prelude.{Bool, true, cond, not, ◌&&◌, ◌||◌, List, ℕ, ◌-◌, ◌^◌, min, length, eqb, ltb, None, Option, Some}
 use Rattle.json_blocks.specs.TextBytes.{byte, slice}
 use Rattle.json_blocks.specs.Lists.{all, number_from}
 use Rattle.json_tokens.specs.Number.{digit}
 use Rattle.refusals.specs.Answer.{Answer, accepted, refused}
-use Rattle.sigmf_values.specs.declared.Uint.{Uint}
-use Rattle.sigmf_values.specs.declared.Uint.TheVariants as U
 use Rattle.sigmf_values.specs.declared.FieldType.{FieldType}
 use Rattle.sigmf_values.specs.declared.FieldType.TheVariants as T
 
@@ -23,13 +21,13 @@ unfoldable pub is_uint : List ℕ → Bool
 is_uint p = not (eqb (length p) 0) && not (eqb (byte p 0) 0x30 && ltb 1 (length p)) && all digit p && ltb (number_from 0 p) (2 ^ 64)
 
 -- its number
-unfoldable pub uint_of : List ℕ → Uint
-uint_of p = cond (is_uint p) (U.Value (number_from 0 p)) U.Bad
+unfoldable pub uint_of : List ℕ → Option ℕ
+uint_of p = cond (is_uint p) (Some (number_from 0 p)) None
 
 -- what an answer says; 7: "a core field of the wrong type"
-abbrev pub uint_says : Uint → Answer ℕ
-uint_says (U.Value n) = accepted n
-uint_says U.Bad = refused 7
+abbrev pub uint_says : Option ℕ → Answer ℕ
+uint_says (Some n) = accepted n
+uint_says None = refused 7
 
 abbrev pub uint_answer : List ℕ → Answer ℕ
 uint_answer p = cond (is_uint p) (accepted (number_from 0 p)) (refused 7)

@@ -3,13 +3,6 @@
 
 pub mod value;
 
-// A uint's value, or that there is none.
-#[derive(Clone, Copy)]
-pub enum Uint {
-    Value(u64),
-    Bad,
-}
-
 // The types of core fields.
 #[derive(Clone, Copy)]
 pub enum FieldType {

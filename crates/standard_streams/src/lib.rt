@@ -13,8 +13,7 @@ pub fn read_full<R: Read>(from: &mut R, room: &mut [u8]) -> usize
 {
     let mut n = 0usize;
     while n < room.len() {
-        let r = from.read(&mut room[n..]);
-        let Ok(more) = r else {
+        let Ok(more) = from.read(&mut room[n..]) else {
             return n;
         };
         if more == 0 {
@@ -28,8 +27,7 @@ pub fn read_full<R: Read>(from: &mut R, room: &mut [u8]) -> usize
 // The input does not end here: another read gives a byte or fails.
 pub fn is_unread<R: Read>(from: &mut R) -> bool {
     let mut one = [0u8; 1];
-    let r = from.read(&mut one);
-    let Ok(n) = r else {
+    let Ok(n) = from.read(&mut one) else {
         return true;
     };
     n != 0
@@ -37,18 +35,12 @@ pub fn is_unread<R: Read>(from: &mut R) -> bool {
 
 // Writes the first n bytes; whether all were written.
 pub fn write_first<P: Print>(to: &P, bytes: &[u8], n: usize) -> bool {
-    if n > bytes.len() {
-        return false;
-    }
-    to.write_all(&bytes[0..n]).is_ok()
+    n <= bytes.len() && to.write_all(&bytes[..n]).is_ok()
 }
 
 // Writes a line of a word and a number, likewise.
 pub fn write_line<P: Print>(to: &P, word: &[u8], n: u64) -> bool {
-    if to.write_all(word).is_ok() {
-        return to.println(n).is_ok();
-    }
-    false
+    to.write_all(word).is_ok() && to.println(n).is_ok()
 }
 
 // Writes the line of a refusal, likewise.

@@ -3,7 +3,7 @@
 // Where the input can't be read to its end or the table can't be written, it says so there instead.
 #![tactic(auto)]
 
-use first_line::{FirstLine, after, first_line};
+use first_line::{after, first_line};
 use limits::Limits;
 use reader::read;
 use standard_streams::{is_unread, read_full, refuse, write_first, write_line};
@@ -16,26 +16,22 @@ const INPUT: usize = first_line::LONGEST + Limits::METADATA + 1;
 fn main(rt: HostRuntime) {
     let mut input = [0u8; INPUT];
     let n = read_full(&mut rt.stdin(), &mut input);
-    if n < INPUT {
-        if is_unread(&mut rt.stdin()) {
-            let _ = rt
-                .stderr()
-                .write_all(b"store_table: the input could not be read to its end\n");
-            return;
-        }
-    }
-    if run(rt, &input[..n]) {
+    if n < INPUT && is_unread(&mut rt.stdin()) {
+        let _ = rt
+            .stderr()
+            .write_all(b"store_table: the input could not be read to its end\n");
         return;
     }
-    let _ = rt
-        .stderr()
-        .write_all(b"store_table: the table could not be written\n");
+    if !run(rt, &input[..n]) {
+        let _ = rt
+            .stderr()
+            .write_all(b"store_table: the table could not be written\n");
+    }
 }
 
 // Answers an input; whether the answer was written.
 fn run(rt: HostRuntime, input: &[u8]) -> bool {
-    let f = first_line(input);
-    let FirstLine::Size(d, at) = f else {
+    let Some((d, at)) = first_line(input) else {
         return refuse(&rt.stderr(), 1);
     };
     store_recording(rt, after(input, at), d)
@@ -57,8 +53,5 @@ fn write_table(rt: HostRuntime, t: Summary, captures: &[u64], annotations: &[u64
     if s.refusal != 0 {
         return refuse(&rt.stderr(), s.refusal);
     }
-    if write_first(&rt, &out, s.count as usize) {
-        return write_line(&rt.stderr(), b"stored ", s.count);
-    }
-    false
+    write_first(&rt, &out, s.count as usize) && write_line(&rt.stderr(), b"stored ", s.count)
 }

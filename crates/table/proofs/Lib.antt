@@ -5,4 +5,3 @@ pub mod TableLaws
 pub mod LocateLaws
 pub mod Filling
 pub mod SummaryLaws
-pub mod ByteLaws

@@ -1,15 +1,15 @@
 -- The rules of rows by themselves, as the code tests them row by row, say that the rows are those of their own starts, headers and counts.
 use Prim.Native.Nat.{ℕ, ◌+◌, ◌-◌, ◌*◌, ◌≤◌}
 use mathlib.Core.Path.{◌≡◌, refl, sym, ◌∙◌}
-use mathlib.Core.Bool.{Bool, true, false, ◌&&◌, false≢true}
+use mathlib.Core.Bool.{true, ◌&&◌, false≢true}
 use mathlib.Core.List.{List, [], ◌∷◌, map}
 use native.Mathlib.Omega.{arith}
 use lib.Dec.{leb, eqb}
 use borrow.Author.Tests.{le-leb, eq-eqb, leb-true, eqb-true}
 use Rattle.table.specs.declared.Capture.{Capture}
 use Rattle.table.specs.declared.Annotation.{Annotation}
-use Rattle.table.specs.Samples.{next_start, capture_rows, annotation_row, ascending_from, ascending, start_ok, note_ok, all_entries, all_notes}
-use Rattle.table.specs.Table.{own_entry, own_entries, own_note, own_notes, like_capture, like_annotation, all_like, captures_obey, annotations_obey, texts_ok, all_texts}
+use Rattle.table.specs.Samples.{next_start, capture_rows, annotation_row, ascending_from, all_entries, all_notes}
+use Rattle.table.specs.Table.{own_entries, own_notes, like_capture, like_annotation, all_like, captures_obey, annotations_obey, texts_ok, all_texts}
 use Rattle.table.specs.Judge.{capture_ok, captures_ok, annotation_ok, annotations_ok}
 use Rattle.table.proofs.Bools.{and_left, and_right, same_test}
 

@@ -1,12 +1,11 @@
 -- Laws of rows in flat memory.
 use Prim.Native.Nat.{ℕ, zero, suc, ◌+◌, ◌-◌, ◌*◌, ◌/◌, ◌≤◌, ◌<◌}
 use mathlib.Core.Path.{◌≡◌, refl, sym, ap, subst, ◌∙◌}
-use mathlib.Core.Bool.{Bool, true, false, cond}
 use mathlib.Core.List.{List, [], ◌∷◌, ◌++◌, append_assoc}
 use native.Mathlib.Omega.{arith}
 use native.Mathlib.Numerals.{add-one}
 use native.Mathlib.Nat.{add-zero}
-use lib.ListN.{length, get_or, take, drop, set, length-append, length-drop}
+use lib.ListN.{length, get_or, take, drop, set, length-append}
 use lib.Seq.{get_or-take, get_or-drop, sets-eq, take_at, drop_at, drop-drop}
 use lib.Dec.{leb}
 use borrow.Author.Tests.{le-leb, lt-leb}
@@ -54,27 +53,28 @@ unfolding row
 row_none w m i h = rw (lt-leb _ _ h)
 
 module _ (m : List ℕ) (i : ℕ) where
-  pub capture_in_lem : i < length m / capture_width
-      → record { start = get_or m (capture_width * i) 0; end = get_or m (capture_width * i + 1) 0; first = get_or m (capture_width * i + 2) 0; header = get_or m (capture_width * i + 3) 0 } ≡ capture_at m i
-  unfolding capture_at
-  capture_in_lem h =
-      let g : capture_width * i + capture_width ≤ length m = omega arith in
-      rw (row_number capture_width m i 0 g (omega arith), row_number capture_width m i 1 g (omega arith), row_number capture_width m i 2 g (omega arith), row_number capture_width m i 3 g (omega arith), add-zero (capture_width * i))
+  -- a row made of its four numbers
+  module _ (a b c d : ℕ) (e : a ≡ get_or m (4 * i) 0) (f : b ≡ get_or m (4 * i + 1) 0) (g : c ≡ get_or m (4 * i + 2) 0) (h : d ≡ get_or m (4 * i + 3) 0)
+      (lt : 4 * (i + 1) ≤ length m) where
+    fit : 4 * i + 4 ≤ length m
+    fit = omega arith
 
-  pub capture_out : length m / capture_width ≤ i → record { start = 0; end = 0; first = 0; header = 0 } ≡ capture_at m i
-  unfolding capture_at
-  capture_out h = rw (row_none capture_width m i (omega arith))
+    pub capture_in_lem : record { start = a; end = b; first = c; header = d } ≡ capture_at m i
+    unfolding capture_at
+    capture_in_lem = rw (e, f, g, h, row_number 4 m i 0 fit (omega arith), row_number 4 m i 1 fit (omega arith), row_number 4 m i 2 fit (omega arith), row_number 4 m i 3 fit (omega arith), add-zero (4 * i))
 
-  pub annotation_in_lem : i < length m / annotation_width
-      → record { start = get_or m (annotation_width * i) 0; end = get_or m (annotation_width * i + 1) 0; texts = record { label = record { at = get_or m (annotation_width * i + 2) 0; len = get_or m (annotation_width * i + 3) 0 } } } ≡ annotation_at m i
-  unfolding annotation_at
-  annotation_in_lem h =
-      let g : annotation_width * i + annotation_width ≤ length m = omega arith in
-      rw (row_number annotation_width m i 0 g (omega arith), row_number annotation_width m i 1 g (omega arith), row_number annotation_width m i 2 g (omega arith), row_number annotation_width m i 3 g (omega arith), add-zero (annotation_width * i))
+    pub annotation_in_lem : record { start = a; end = b; texts = record { label = record { at = c; len = d } } } ≡ annotation_at m i
+    unfolding annotation_at
+    annotation_in_lem = rw (e, f, g, h, row_number 4 m i 0 fit (omega arith), row_number 4 m i 1 fit (omega arith), row_number 4 m i 2 fit (omega arith), row_number 4 m i 3 fit (omega arith), add-zero (4 * i))
 
-  pub annotation_out : length m / annotation_width ≤ i → record { start = 0; end = 0; texts = record { label = record { at = 0; len = 0 } } } ≡ annotation_at m i
-  unfolding annotation_at
-  annotation_out h = rw (row_none annotation_width m i (omega arith))
+  module _ (n : ℕ) (long : n ≡ length m) (le : n / 4 ≤ i) where
+    pub capture_out : record { start = 0; end = 0; first = 0; header = 0 } ≡ capture_at m i
+    unfolding capture_at
+    capture_out = rw (row_none capture_width m i (omega arith))
+
+    pub annotation_out : record { start = 0; end = 0; texts = record { label = record { at = 0; len = 0 } } } ≡ annotation_at m i
+    unfolding annotation_at
+    annotation_out = rw (row_none annotation_width m i (omega arith))
 
   -- four stores are a row
   pub put_in : (a b c d : ℕ) → i < length m / 4

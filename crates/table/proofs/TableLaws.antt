@@ -1,31 +1,29 @@
 -- Laws of the judge of a table, and what a well-formed table tells.
-use Prim.Native.Nat.{ℕ, zero, suc, ◌+◌, ◌-◌, ◌*◌, ◌/◌, ◌≤◌, ◌<◌, ◌^◌}
-use mathlib.Core.Path.{◌≡◌, refl, sym, ap, ◌∙◌, subst}
-use mathlib.Core.Bool.{Bool, true, false, cond, ◌&&◌, false≢true}
-use mathlib.Core.List.{List, [], ◌∷◌}
+use Prim.Native.Nat.{ℕ, ◌+◌, ◌-◌, ◌*◌, ◌/◌, ◌≤◌, ◌<◌, ◌^◌}
+use mathlib.Core.Path.{◌≡◌, refl, sym, ap, ◌∙◌}
+use mathlib.Core.Bool.{Bool, true, false, ◌&&◌, false≢true}
+use Rattle.std.proofs.Common.{Option, Some, None}
+use Rattle.std.specs.Option.{option_eq}
+use mathlib.Core.List.{List}
 use native.Mathlib.Omega.{arith}
-use native.Mathlib.Nat.{mul-le-mul_right, le-div_iff_mul-le, div-lt_iff_lt-mul}
 use mir.Syntax.{w64}
 use mir.Val.{Fits}
 use lib.ListN.{length}
+use Rattle.std.proofs.lemmas.Option.{none-some, same_Some}
 use lib.Dec.{leb, eqb}
-use borrow.Author.Tests.{le-leb, lt-leb, eq-eqb, ne_eqb, leb-true, leb-false, eqb-true}
-use Rattle.limits.specs.declared.Limits.{Limits}
-use Rattle.limits.specs.Limits.{metadata, dataset, channels, limits}
+use borrow.Author.Tests.{le-leb, lt-leb, eq-eqb, leb-true, leb-false, eqb-true}
+use Rattle.limits.specs.Limits.{dataset, channels}
 use Rattle.sigmf_datatypes.specs.Datatypes.{is_listed, width_of, sample_bytes}
 use Rattle.sigmf_datatypes.proofs.Laws.{width_least}
 use Rattle.table.specs.declared.Capture.{Capture}
-use Rattle.table.specs.declared.Place.{Place}
-use Rattle.table.specs.declared.Texts.{Texts}
 use Rattle.table.specs.declared.Annotation.{Annotation}
 use Rattle.table.specs.declared.Summary.{Summary}
-use Rattle.table.specs.declared.Sum.{Sum}
 use Rattle.table.specs.Rows.{capture_width, annotation_width, capture_at, annotation_at, rest, captures, annotations, table}
 use Rattle.table.specs.Samples.{header_sum, next_start}
 use Rattle.table.specs.Place.{ends_within}
-use Rattle.table.specs.Table.{own_entries, captures_obey, annotations_obey, texts_ok, all_texts, format_ok, counts_ok, sizes_ok, rows_ok, well_formed}
+use Rattle.table.specs.Table.{own_entries, captures_obey, annotations_obey, all_texts, format_ok, counts_ok, sizes_ok, rows_ok, well_formed}
 use Rattle.table.specs.Judge.{capture_ok, captures_ok, annotation_ok, annotations_ok, numbers_ok, layout_ok, summed, Laid}
-use Rattle.table.proofs.Bools.{and_left, and_right, and_false, leb_same, same_test}
+use Rattle.table.proofs.Bools.{and_left, and_right, and_false, same_test}
 use Rattle.table.proofs.ObeyLaws.{captures_obey_lem, annotations_obey_lem}
 use Rattle.table.proofs.RowLaws.{rest_more, rest_at, rest_none}
 
@@ -38,51 +36,22 @@ pub next_none : (l : List ℕ) (n i e : ℕ) → n ≤ i → e ≡ next_start e 
 unfolding next_start
 next_none l n i e h = rw (rest_none (capture_at l) n i h)
 
--- ---- one capture
-module _ (x : Capture) (o e w s h next : ℕ) where
-  pub ok_low : x.start < s → false ≡ capture_ok o e w s h next x
-  unfolding capture_ok
-  ok_low t1 = rw (lt-leb _ _ t1)
-
-  pub ok_high : s ≤ x.start → e < x.start → false ≡ capture_ok o e w s h next x
-  unfolding capture_ok
-  ok_high t1 t2 = rw (le-leb _ _ t1, lt-leb _ _ t2)
-
-  pub ok_end : s ≤ x.start → x.start ≤ e → (x.end ≡ next → ⊥) → false ≡ capture_ok o e w s h next x
-  unfolding capture_ok
-  ok_end t1 t2 t3 = rw (le-leb _ _ t1, le-leb _ _ t2, ne_eqb _ _ t3)
-
-  pub ok_first : s ≤ x.start → x.start ≤ e → x.end ≡ next → eqb x.first ((x.start - o) * w + h) ≡ capture_ok o e w s h next x
-  unfolding capture_ok
-  ok_first t1 t2 t3 = rw (le-leb _ _ t1, le-leb _ _ t2, eq-eqb _ _ t3)
-
-pub part_fits : (a e o w h : ℕ) → (e - o) * w + h < 2 ^ 63 → a ≤ e → Fits w64 ((a - o) * w)
-part_fits a e o w h b g =
-    let k : a - o ≤ e - o = omega arith in
-    omega (arith, mul-le-mul_right w k)
-
-pub first_fits : (a e o w h : ℕ) → (e - o) * w + h < 2 ^ 63 → a ≤ e → Fits w64 ((a - o) * w + h)
-first_fits a e o w h b g =
-    let k : a - o ≤ e - o = omega arith in
-    omega (arith, mul-le-mul_right w k)
-
 -- ---- the captures: their rules and the sum of headers, row by row
 pub sum_split : (l : List ℕ) (n i : ℕ) (x : Capture) → x ≡ capture_at l i → i < n → header_sum (own_entries (rest (capture_at l) n i)) ≡ x.header + header_sum (own_entries (rest (capture_at l) n (i + 1)))
 unfolding header_sum
 sum_split l n i x e lt = rw (rest_at (capture_at l) n i x e lt)
 
 pub record Summing (l : List ℕ) (n o e w cap s h i : ℕ) : Type 0 where
-  pub more : i ≤ n
   pub low : o ≤ s
   pub under : h ≤ cap
   pub sum : h + header_sum (own_entries (rest (capture_at l) n i)) ≡ header_sum (own_entries (captures l n))
   pub good : captures_ok o e w s h (rest (capture_at l) n i) ≡ captures_ok o e w o 0 (captures l n)
 
 pub sum_begin : (l : List ℕ) (n o e w cap : ℕ) → Summing l n o e w cap o 0 0
-sum_begin l n o e w cap = record { more = omega arith; low = omega arith; under = omega arith; sum = omega arith; good = refl }
+sum_begin l n o e w cap = record { low = omega arith; under = omega arith; sum = omega arith; good = refl }
 
 module _ (l : List ℕ) (n o e w cap s h i : ℕ) (S : Summing l n o e w cap s h i) where
-  pub sum_done : n ≤ i → record { ok = true; total = h } ≡ summed (captures_ok o e w o 0 (captures l n)) cap (header_sum (own_entries (captures l n)))
+  pub sum_done : n ≤ i → Some h ≡ summed (captures_ok o e w o 0 (captures l n)) cap (header_sum (own_entries (captures l n)))
   unfolding header_sum captures_ok
   sum_done g =
       let z : h ≡ header_sum (own_entries (captures l n)) = omega (arith, S.sum, ap (λ (rs : List Capture). header_sum (own_entries rs)) (rest_none (capture_at l) n i g)) in
@@ -90,7 +59,7 @@ module _ (l : List ℕ) (n o e w cap s h i : ℕ) (S : Summing l n o e w cap s h
       rw (← S.good, rest_none (capture_at l) n i g, le-leb _ _ k, z)
 
   module _ (x : Capture) (q : x ≡ capture_at l i) (lt : i < n) where
-    pub sum_over : cap - h < x.header → record { ok = false; total = 0 } ≡ summed (captures_ok o e w o 0 (captures l n)) cap (header_sum (own_entries (captures l n)))
+    pub sum_over : cap - h < x.header → None ≡ summed (captures_ok o e w o 0 (captures l n)) cap (header_sum (own_entries (captures l n)))
     sum_over g =
         let big : cap < header_sum (own_entries (captures l n)) = omega (arith, S.sum, sum_split l n i x q lt) in
         rw (lt-leb _ _ big, and_false (captures_ok o e w o 0 (captures l n)))
@@ -107,7 +76,7 @@ module _ (l : List ℕ) (n o e w cap s h i : ℕ) (S : Summing l n o e w cap s h
         unfolding captures_ok
         split = rw (u, k, q) (rw (rest_more (capture_at l) n i lt) at S.good)
 
-        pub sum_bad : t ≡ false → record { ok = false; total = 0 } ≡ summed (captures_ok o e w o 0 (captures l n)) cap (header_sum (own_entries (captures l n)))
+        pub sum_bad : t ≡ false → None ≡ summed (captures_ok o e w o 0 (captures l n)) cap (header_sum (own_entries (captures l n)))
         sum_bad f =
             let z : false ≡ captures_ok o e w o 0 (captures l n) = rw f at split in
             rw (← z)
@@ -119,66 +88,40 @@ module _ (l : List ℕ) (n o e w cap s h i : ℕ) (S : Summing l n o e w cap s h
             omega (arith, leb-true s x.start z, S.low)
 
         pub sum_on : t ≡ true → Summing l n o e w cap x.start (h + x.header) (i + 1)
-        sum_on f = record { more = omega arith; low = after f; under = omega (arith, S.under); sum = omega (arith, S.sum, sum_split l n i x q lt); good = rw f at split }
+        sum_on f = record { low = after f; under = omega (arith, S.under); sum = omega (arith, S.sum, sum_split l n i x q lt); good = rw f at split }
 
-pub summed_yes : (s : Sum) (good : Bool) (cap S : ℕ) → s ≡ summed good cap S → s.ok ≡ true → (good ≡ true) × (s.total ≡ S) × (S ≤ cap)
-summed_yes s good cap S e f = go (good && leb S cap) refl
+pub summed_yes : (good : Bool) (cap S a : ℕ) → Some a ≡ summed good cap S → (good ≡ true) × (a ≡ S) × (S ≤ cap)
+summed_yes good cap S a e = go (good && leb S cap) refl
   where
-    go : (b : Bool) → good && leb S cap ≡ b → (good ≡ true) × (s.total ≡ S) × (S ≤ cap)
-    go true q = (and_left _ _ q, rw q at (ap (λ (z : Sum). z.total) e), leb-true _ _ (and_right good _ q))
-    go false q = absurd (false≢true (sym (rw q at (ap (λ (z : Sum). z.ok) e)) ∙ f))
+    go : (b : Bool) → good && leb S cap ≡ b → (good ≡ true) × (a ≡ S) × (S ≤ cap)
+    go true q = (and_left _ _ q, same_Some a S (rw q at e), leb-true _ _ (and_right good _ q))
+    go false q = absurd (none-some a (sym (rw q at e)))
 
-pub summed_no : (s : Sum) (good : Bool) (cap S : ℕ) → s ≡ summed good cap S → s.ok ≡ false → good ≡ true → cap < S
-summed_no s good cap S e f g = go (leb S cap) refl
+pub summed_no : (good : Bool) (cap S : ℕ) → None ≡ summed good cap S → good ≡ true → cap < S
+summed_no good cap S e g = go (leb S cap) refl
   where
     go : (b : Bool) → leb S cap ≡ b → cap < S
     go false q = leb-false _ _ q
-    go true q = absurd (false≢true (sym f ∙ (rw (g, q) at (ap (λ (z : Sum). z.ok) e))))
+    go true q = absurd (none-some S (rw (g, q) at e))
 
 -- ---- the layout: parts that make the size
 abbrev laid_out : Summary → List Capture → Bool
 laid_out t rs = captures_ok t.offset (t.offset + t.samples) t.width t.offset 0 rs
 
--- samples and trailer
-module _ (t : Summary) (w1 : 1 ≤ t.width) where
-  pub fixed_many : t.size / t.width < t.samples → record { ok = false; total = 0 } ≡ summed true t.size (t.trailing + t.samples * t.width)
-  fixed_many h =
-      let k = (div-lt_iff_lt-mul w1).0 h in
-      let g : t.size < t.trailing + t.samples * t.width = omega arith in
-      rw (lt-leb _ _ g)
+-- samples and trailer do not fit
+pub fixed_over : (t : Summary) → t.size < t.trailing + t.samples * t.width → None ≡ summed true t.size (t.trailing + t.samples * t.width)
+fixed_over t h = rw (lt-leb _ _ h)
 
-  module _ (h : t.samples ≤ t.size / t.width) where
-    pub fixed_part : t.samples * t.width ≤ t.size
-    fixed_part = (le-div_iff_mul-le w1).0 h
-
-    pub fixed_mul : t.size ≤ dataset → Fits w64 (t.samples * t.width)
-    fixed_mul g = omega (arith, fixed_part)
-
-    pub fixed_over : t.size - t.samples * t.width < t.trailing → record { ok = false; total = 0 } ≡ summed true t.size (t.trailing + t.samples * t.width)
-    fixed_over g =
-        let k : t.size < t.trailing + t.samples * t.width = omega (arith, fixed_part) in
-        rw (lt-leb _ _ k)
-
-    module _ (g : t.trailing ≤ t.size - t.samples * t.width) where
-      within : t.trailing + t.samples * t.width ≤ t.size
-      within = omega (arith, fixed_part)
-
-      pub fixed_add : t.size ≤ dataset → Fits w64 (t.trailing + t.samples * t.width)
-      fixed_add k = omega (arith, within)
-
-      pub fixed_is : record { ok = true; total = t.trailing + t.samples * t.width } ≡ summed true t.size (t.trailing + t.samples * t.width)
-      fixed_is = rw (le-leb _ _ within)
-
-module _ (t : Summary) (f : Sum) (z : f ≡ summed true t.size (t.trailing + t.samples * t.width)) (y : f.ok ≡ true) where
-  parts : (f.total ≡ t.trailing + t.samples * t.width) × (f.total ≤ t.size)
+module _ (t : Summary) (a : ℕ) (z : Some a ≡ summed true t.size (t.trailing + t.samples * t.width)) where
+  parts : (a ≡ t.trailing + t.samples * t.width) × (a ≤ t.size)
   parts =
-      let k = summed_yes f true t.size (t.trailing + t.samples * t.width) z y in
+      let k = summed_yes true t.size (t.trailing + t.samples * t.width) a z in
       (k.1, omega (arith, k.1, k.2))
 
-  pub lay_within : f.total ≤ t.size
+  pub lay_within : a ≤ t.size
   lay_within = parts.1
 
-  pub lay_below : t.size ≤ dataset → (t.offset + t.samples - t.offset) * t.width + (t.size - f.total) < 2 ^ 63
+  pub lay_below : t.size ≤ dataset → (t.offset + t.samples - t.offset) * t.width + (t.size - a) < 2 ^ 63
   lay_below g =
       let n : t.offset + t.samples - t.offset ≡ t.samples = omega arith in
       rw n (omega (arith, parts))
@@ -195,58 +138,28 @@ module _ (t : Summary) (rs : List Capture) where
   layout_false : (t.trailing + header_sum (own_entries rs) + t.samples * t.width ≡ t.size → ⊥) → false ≡ layout_ok t rs
   layout_false f = same_test false (layout_ok t rs) (λ z. absurd (false≢true z)) (λ z y. f (layout_facts y).1)
 
-  module _ (f : Sum) (z : f ≡ summed true t.size (t.trailing + t.samples * t.width)) where
-    pub lay_over : f.ok ≡ false → false ≡ layout_ok t rs
-    lay_over y = layout_false (λ x. omega (arith, x, summed_no f true t.size (t.trailing + t.samples * t.width) z y refl))
+  pub lay_over : None ≡ summed true t.size (t.trailing + t.samples * t.width) → false ≡ layout_ok t rs
+  lay_over z = layout_false (λ x. omega (arith, x, summed_no true t.size (t.trailing + t.samples * t.width) z refl))
 
-    module _ (y : f.ok ≡ true) where
-      module _ (s : Sum) (e : s ≡ summed (laid_out t rs) (t.size - f.total) (header_sum (own_entries rs))) where
-        pub lay_bad : s.ok ≡ false → false ≡ layout_ok t rs
-        lay_bad v = same_test false (layout_ok t rs) (λ x. absurd (false≢true x)) (λ x q. over (layout_facts q))
-          where
-            over : (laid_out t rs ≡ true) × (t.trailing + header_sum (own_entries rs) + t.samples * t.width ≡ t.size) → ⊥
-            over q = let k = summed_no s (laid_out t rs) _ (header_sum (own_entries rs)) e v q.0 in omega (arith, q.1, parts t f z y)
+  module _ (a : ℕ) (z : Some a ≡ summed true t.size (t.trailing + t.samples * t.width)) where
+    module _ (s : Option ℕ) (e : s ≡ summed (laid_out t rs) (t.size - a) (header_sum (own_entries rs))) where
+      given : (r : Option ℕ) → r ≡ s → option_eq eqb r (Some (t.size - a)) ≡ true → layout_ok t rs ≡ true
+      given None q x = absurd (false≢true x)
+      given (Some b) q x =
+          let k = summed_yes (laid_out t rs) _ (header_sum (own_entries rs)) b (q ∙ e) in
+          layout_true k.0 (omega (arith, eqb-true b (t.size - a) x, k.1, parts t a z))
 
-        pub lay_good : s.ok ≡ true → eqb s.total (t.size - f.total) ≡ layout_ok t rs
-        lay_good v =
-            let k = summed_yes s (laid_out t rs) _ (header_sum (own_entries rs)) e v in
-            same_test (eqb s.total (t.size - f.total)) (layout_ok t rs)
-            (λ x. layout_true k.0 (omega (arith, eqb-true s.total (t.size - f.total) x, k.1, parts t f z y)))
-            (λ x q. false≢true (sym x ∙ eq-eqb s.total (t.size - f.total) (omega (arith, (layout_facts q).1, k.1, parts t f z y))))
+      found : layout_ok t rs ≡ true → option_eq eqb s (Some (t.size - a)) ≡ true
+      found y =
+          let k = layout_facts y in
+          let h : header_sum (own_entries rs) ≡ t.size - a = omega (arith, k.1, parts t a z) in
+          let g : header_sum (own_entries rs) ≤ t.size - a = omega (arith, h) in
+          rw (e, k.0, le-leb _ _ g) (eq-eqb _ _ h)
 
--- ---- text places
-pub text_far : (p : Place) → metadata < p.at → false ≡ ends_within p
-unfolding ends_within
-text_far p h =
-    let k : metadata < p.at + p.len = omega arith in
-    rw (lt-leb _ _ k)
-
-pub text_near : (p : Place) → p.at ≤ metadata → leb p.len (metadata - p.at) ≡ ends_within p
-unfolding ends_within
-text_near p h = leb_same p.len (metadata - p.at) (p.at + p.len) metadata (λ z. omega arith) (λ z. omega arith)
-
-pub texts_are : (x : Texts) (r : Bool) → r ≡ ends_within x.label → r ≡ texts_ok x
-unfolding texts_ok
-texts_are x r e = e
+      pub lay_good : option_eq eqb s (Some (t.size - a)) ≡ layout_ok t rs
+      lay_good = same_test _ _ (given s refl) (λ x y. false≢true (sym x ∙ found y))
 
 -- ---- annotations
-module _ (x : Annotation) (e s : ℕ) where
-  pub note_low : x.start < s → false ≡ annotation_ok e s x
-  unfolding annotation_ok
-  note_low a = rw (lt-leb _ _ a)
-
-  pub note_turn : s ≤ x.start → x.end < x.start → false ≡ annotation_ok e s x
-  unfolding annotation_ok
-  note_turn a b = rw (le-leb _ _ a, lt-leb _ _ b)
-
-  pub note_high : s ≤ x.start → x.start ≤ x.end → e < x.end → false ≡ annotation_ok e s x
-  unfolding annotation_ok
-  note_high a b c = rw (le-leb _ _ a, le-leb _ _ b, lt-leb _ _ c)
-
-  pub note_texts : (r : Bool) → r ≡ texts_ok x.texts → s ≤ x.start → x.start ≤ x.end → x.end ≤ e → r ≡ annotation_ok e s x
-  unfolding annotation_ok
-  note_texts r q a b c = rw (le-leb _ _ a, le-leb _ _ b, le-leb _ _ c) q
-
 -- row by row: B is what the whole test says, t what the row's test says
 module _ (x : Annotation) (l : List ℕ) (n i e s : ℕ) (t B : Bool) (q : x ≡ annotation_at l i) (lt : i < n) (u : t ≡ annotation_ok e s x)
     (b : annotations_ok e s (rest (annotation_at l) n i) ≡ B) where
@@ -323,42 +236,6 @@ numbers t e =
     let f = and_right (eqb t.refusal 0) _ z in
     record { said = eqb-true _ _ (and_left (eqb t.refusal 0) _ z); format = f; wide = width_some t f; small = leb-true _ _ (and_right a _ y); ends = leb-true _ _ (and_right b _ x); rate = and_right c _ e }
 
-module _ (t : Summary) where
-  pub num_said : (t.refusal ≡ 0 → ⊥) → false ≡ numbers_ok t
-  unfolding numbers_ok
-  num_said a = rw (ne_eqb _ _ a)
-
-  module _ (a : t.refusal ≡ 0) (f : Bool) (e : f ≡ format_ok t) where
-    pub num_format : f ≡ false → false ≡ numbers_ok t
-    unfolding numbers_ok
-    num_format b = rw (eq-eqb _ _ a, sym e ∙ b)
-
-    module _ (b : f ≡ true) (l : Limits) (q : l ≡ limits) where
-      most : l.dataset ≡ dataset
-      most = ap (λ x. x.dataset) q
-
-      pub num_size : l.dataset < t.size → false ≡ numbers_ok t
-      unfolding numbers_ok
-      num_size d =
-          let k : dataset < t.size = subst (λ (x : ℕ). x < t.size) most d in
-          rw (eq-eqb _ _ a, sym e ∙ b, lt-leb _ _ k)
-
-      module _ (d : t.size ≤ l.dataset) (o : t.offset < 2 ^ 64) where
-        fits : t.size ≤ dataset
-        fits = subst (λ (x : ℕ). t.size ≤ x) most d
-
-        pub num_ends : 2 ^ 64 - 1 - t.offset < t.samples → false ≡ numbers_ok t
-        unfolding numbers_ok
-        num_ends g =
-            let k : 2 ^ 64 - 1 < t.offset + t.samples = omega arith in
-            rw (eq-eqb _ _ a, sym e ∙ b, le-leb _ _ fits, lt-leb _ _ k)
-
-        pub num_rate : (r : Bool) → r ≡ ends_within t.rate → t.samples ≤ 2 ^ 64 - 1 - t.offset → r ≡ numbers_ok t
-        unfolding numbers_ok
-        num_rate r s g =
-            let k : t.offset + t.samples ≤ 2 ^ 64 - 1 = omega arith in
-            rw (eq-eqb _ _ a, sym e ∙ b, le-leb _ _ fits, le-leb _ _ k) s
-
 -- ---- a well-formed table
 pub record Formed (t : Summary) (caps notes : List ℕ) : Type 0 where
   pub nums : Numbers t
@@ -425,47 +302,54 @@ numbers_true : (t : Summary) → Numbers t → numbers_ok t ≡ true
 unfolding numbers_ok
 numbers_true t n = rw (eq-eqb _ _ n.said, n.format, le-leb _ _ n.small, le-leb _ _ n.ends, n.rate)
 
-module _ (t : Summary) (caps notes : List ℕ) where
-  -- what no well-formed table has
-  bad : (Formed t caps notes → ⊥) → false ≡ well_formed (table t caps notes)
-  bad f = same_test false (well_formed (table t caps notes)) (λ z. absurd (false≢true z)) (λ z e. f (formed t caps notes e))
+-- what the numbers tell the other parts
+module _ (t : Summary) (e : numbers_ok t ≡ true) where
+  pub numbers_wide : 1 ≤ t.width
+  numbers_wide = (numbers t e).wide
 
-  module _ (b : Bool) (e : b ≡ numbers_ok t) where
-    pub wf_numbers : b ≡ false → false ≡ well_formed (table t caps notes)
-    wf_numbers f = bad (λ F. false≢true (sym f ∙ e ∙ numbers_true t F.nums))
+  pub numbers_small : t.size ≤ dataset
+  numbers_small = (numbers t e).small
 
-    module _ (f : b ≡ true) where
-      pub wf_wide : 1 ≤ t.width
-      wf_wide = (numbers t (sym e ∙ f)).wide
+  pub numbers_ends : t.offset + t.samples < 2 ^ 64
+  numbers_ends = let k = (numbers t e).ends in omega arith
 
-      pub wf_small : t.size ≤ dataset
-      wf_small = (numbers t (sym e ∙ f)).small
+-- the parts are the whole
+pub well_formed_is : (t : Summary) (caps notes : List ℕ) → well_formed (table t caps notes)
+    ≡ numbers_ok t && leb t.captures (length caps / capture_width) && leb t.annotations (length notes / annotation_width) && layout_ok t (captures caps t.captures)
+    && annotations_ok (t.offset + t.samples) t.offset (annotations notes t.annotations)
+well_formed_is t caps notes = same_test _ _ there (λ x y. false≢true (sym x ∙ back y))
+  where
+    few : Bool
+    few = leb t.captures (length caps / capture_width)
 
-      pub wf_ends : t.offset + t.samples < 2 ^ 64
-      wf_ends = let k = (numbers t (sym e ∙ f)).ends in omega arith
+    too : Bool
+    too = leb t.annotations (length notes / annotation_width)
 
-      pub wf_captures : length caps / capture_width < t.captures → false ≡ well_formed (table t caps notes)
-      wf_captures h = bad (λ F. omega (arith, F.laid.fit))
+    laid : Bool
+    laid = layout_ok t (captures caps t.captures)
 
-      pub wf_annotations : length notes / annotation_width < t.annotations → false ≡ well_formed (table t caps notes)
-      wf_annotations h = bad (λ F. omega (arith, F.noted))
+    there : well_formed (table t caps notes) ≡ true → numbers_ok t && few && too && laid && annotations_ok (t.offset + t.samples) t.offset (annotations notes t.annotations) ≡ true
+    there e =
+        let F = formed t caps notes e in
+        let c : t.captures ≤ length caps / capture_width = omega (arith, F.laid.fit) in
+        let n : t.annotations ≤ length notes / annotation_width = omega (arith, F.noted) in
+        rw (numbers_true t F.nums, le-leb _ _ c, le-leb _ _ n, layout_true t (captures caps t.captures) F.laid.in_order F.laid.total, F.in_order)
 
-      module _ (h : t.captures ≤ length caps / capture_width) (k : t.annotations ≤ length notes / annotation_width) (d : Bool) (g : d ≡ layout_ok t (captures caps t.captures)) where
-        pub wf_layout : d ≡ false → false ≡ well_formed (table t caps notes)
-        wf_layout j = bad (λ F. false≢true (sym j ∙ g ∙ layout_true t (captures caps t.captures) F.laid.in_order F.laid.total))
-
-        pub wf_rows : (r : Bool) → d ≡ true → r ≡ annotations_ok (t.offset + t.samples) t.offset (annotations notes t.annotations) → r ≡ well_formed (table t caps notes)
-        wf_rows r j q =
-            let n = numbers t (sym e ∙ f) in
-            let l = layout_facts t (captures caps t.captures) (sym g ∙ j) in
-            same_test r (well_formed (table t caps notes))
-            (λ z. well_formed_lem t caps notes (record {
-              nums = n;
-              laid = record { fit = omega arith; total = l.1; small = n.small; ends = n.ends; in_order = l.0 };
-              noted = omega arith;
-              in_order = sym q ∙ z;
-            }))
-            (λ z y. false≢true (sym z ∙ q ∙ (formed t caps notes y).in_order))
+    back : numbers_ok t && few && too && laid && annotations_ok (t.offset + t.samples) t.offset (annotations notes t.annotations) ≡ true → well_formed (table t caps notes) ≡ true
+    back e =
+        let a = and_left (numbers_ok t && few && too && laid) _ e in
+        let b = and_left (numbers_ok t && few && too) laid a in
+        let d = and_left (numbers_ok t && few) too b in
+        let n = numbers t (and_left (numbers_ok t) few d) in
+        let l = layout_facts t (captures caps t.captures) (and_right (numbers_ok t && few && too) laid a) in
+        let c = leb-true t.captures (length caps / capture_width) (and_right (numbers_ok t) few d) in
+        let m = leb-true t.annotations (length notes / annotation_width) (and_right (numbers_ok t && few) too b) in
+        well_formed_lem t caps notes (record {
+          nums = n;
+          laid = record { fit = omega (arith, c); total = l.1; small = n.small; ends = n.ends; in_order = l.0 };
+          noted = omega (arith, m);
+          in_order = and_right (numbers_ok t && few && too && laid) _ e;
+        })
 
 -- of a test that said so
 module _ (t : Summary) (caps notes : List ℕ) (b : Bool) (e : b ≡ well_formed (table t caps notes)) (f : b ≡ true) where

@@ -1,10 +1,9 @@
 -- For the code: how the judge of a table is divided, and what its parts ask of each other.
-use Rattle.std.specs.Prelude.{ℕ, ◌+◌, ◌-◌, ◌*◌, ◌^◌, ◌≤◌, ◌≡◌, Bool, true, false, ◌&&◌, cond, List, [], ◌∷◌, length, leb, eqb}
+use Rattle.std.specs.Prelude.{ℕ, ◌+◌, ◌-◌, ◌*◌, ◌^◌, ◌≤◌, ◌<◌, ◌≡◌, Bool, true, ◌&&◌, cond, List, [], ◌∷◌, length, leb, eqb, Option, Some, None}
 use Rattle.limits.specs.Limits.{dataset}
 use Rattle.table.specs.declared.Capture.{Capture}
 use Rattle.table.specs.declared.Annotation.{Annotation}
 use Rattle.table.specs.declared.Summary.{Summary}
-use Rattle.table.specs.declared.Sum.{Sum}
 use Rattle.table.specs.Rows.{capture_width, captures}
 use Rattle.table.specs.Samples.{header_sum, next_start}
 use Rattle.table.specs.Place.{ends_within}
@@ -29,6 +28,10 @@ unfoldable pub annotations_ok : ℕ → ℕ → List Annotation → Bool
 annotations_ok e s [] = true
 annotations_ok e s (r ∷ t) = annotation_ok e s r && annotations_ok e r.start t
 
+-- the first n rows of either kind are there whole
+abbrev pub RowsThere : List ℕ → ℕ → Type 0
+RowsThere l n = (4 * n ≤ length l) × (4 * n < 2 ^ 64)
+
 -- ---- stages
 -- the summary's own numbers
 unfoldable pub numbers_ok : Summary → Bool
@@ -41,8 +44,8 @@ layout_ok t rs =
     && eqb (t.trailing + header_sum (own_entries rs) + t.samples * t.width) t.size
 
 -- the sum, if the rows are good and it is at most the cap
-abbrev pub summed : Bool → ℕ → ℕ → Sum
-summed good cap s = cond (good && leb s cap) (record { ok = true; total = s }) (record { ok = false; total = 0 })
+abbrev pub summed : Bool → ℕ → ℕ → Option ℕ
+summed good cap s = cond (good && leb s cap) (Some s) None
 
 -- what a well-formed table says of its captures, as the cores of the functions ask it
 pub record Laid (t : Summary) (caps : List ℕ) : Type 0 where

@@ -1,5 +1,5 @@
 -- Document 01: the place of a sample; 18, 19.
-use Rattle.std.specs.Prelude.{ℕ, ◌+◌, Bool, ◌&&◌, cond, List, leb, ltb}
+use Rattle.std.specs.Prelude.{ℕ, ◌+◌, Bool, ◌&&◌, cond, leb, ltb}
 use Rattle.table.specs.declared.Summary.{Summary}
 use Rattle.table.specs.declared.Located.{Located}
 use Rattle.table.specs.Rows.{Table, captures_of}

@@ -1,5 +1,5 @@
 -- Document 01, "Rows, pieces, cuts": what lent memory holds after a call.
-use Rattle.std.specs.Prelude.{ℕ, ◌+◌, ◌*◌, cond, List, [], ◌∷◌, ◌++◌, length, take, drop, leb}
+use Rattle.std.specs.Prelude.{ℕ, ◌+◌, ◌*◌, cond, List, [], ◌++◌, length, take, drop, leb}
 
 -- "from the front of the lent memory; beyond them nothing changes"
 abbrev pub written : List ℕ → List ℕ → List ℕ

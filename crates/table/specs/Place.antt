@@ -1,5 +1,5 @@
 -- Document 01, "Rows, pieces, cuts": the place of a text in the metadata.
-use Rattle.std.specs.Prelude.{ℕ, ◌+◌, Bool, ◌&&◌, leb, eqb}
+use Rattle.std.specs.Prelude.{◌+◌, Bool, ◌&&◌, leb, eqb}
 use Rattle.limits.specs.Limits.{metadata}
 use Rattle.table.specs.declared.Place.{Place}
 

@@ -1,11 +1,9 @@
 -- Document 01, "Where samples lie": the rows that starts, headers and counts give, and the place of a sample.
-use Rattle.std.specs.Prelude.{ℕ, ◌+◌, ◌-◌, ◌*◌, Bool, true, cond, ◌&&◌, List, [], ◌∷◌, leb}
+use Rattle.std.specs.Prelude.{ℕ, ◌+◌, ◌-◌, ◌*◌, Bool, true, cond, ◌&&◌, List, [], ◌∷◌, leb, None, Option, Some}
 use Rattle.table.specs.declared.Capture.{Capture}
 use Rattle.table.specs.declared.Annotation.{Annotation}
 use Rattle.table.specs.declared.CaptureEntry.{CaptureEntry}
 use Rattle.table.specs.declared.AnnotationEntry.{AnnotationEntry}
-use Rattle.table.specs.declared.Count.{Count}
-use Rattle.table.specs.declared.Count.TheVariants as C
 
 -- ---- captures, by their starts and headers
 -- "H = sum of all header_bytes"
@@ -26,9 +24,9 @@ capture_rows o w e h (c ∷ t) =
 
 -- ---- annotations, by their starts and counts
 -- "An annotation without a count runs to the end of the dataset"
-abbrev pub note_end : ℕ → ℕ → Count → ℕ
-note_end e s (C.Given n) = s + n
-note_end e s C.Absent = e
+abbrev pub note_end : ℕ → ℕ → Option ℕ → ℕ
+note_end e s (Some n) = s + n
+note_end e s None = e
 
 -- "start, end, place and length of the raw label between its quotes; 0, 0 if absent"
 abbrev pub annotation_row : ℕ → AnnotationEntry → Annotation

@@ -1,5 +1,5 @@
 -- Document 01, "Rows, pieces, cuts": "A table is well formed if ..", with the rules of rows from "Where samples lie".
-use Rattle.std.specs.Prelude.{ℕ, ◌+◌, ◌-◌, ◌*◌, ◌^◌, Bool, true, false, ◌&&◌, List, [], ◌∷◌, map, length, leb, eqb}
+use Rattle.std.specs.Prelude.{ℕ, ◌+◌, ◌-◌, ◌*◌, ◌^◌, Bool, true, false, ◌&&◌, List, [], ◌∷◌, map, length, leb, eqb, Some}
 use Rattle.limits.specs.Limits.{dataset, channels}
 use Rattle.sigmf_datatypes.specs.Datatypes.{is_listed, width_of}
 use Rattle.table.specs.declared.Capture.{Capture}
@@ -8,7 +8,6 @@ use Rattle.table.specs.declared.Annotation.{Annotation}
 use Rattle.table.specs.declared.Summary.{Summary}
 use Rattle.table.specs.declared.CaptureEntry.{CaptureEntry}
 use Rattle.table.specs.declared.AnnotationEntry.{AnnotationEntry}
-use Rattle.table.specs.declared.Count.TheVariants as C
 use Rattle.table.specs.Rows.{capture_width, annotation_width, Table, captures_of, annotations_of}
 use Rattle.table.specs.Samples.{header_sum, capture_rows, annotation_row, ascending, all_entries, all_notes}
 use Rattle.table.specs.Place.{nowhere, ends_within}
@@ -22,7 +21,7 @@ abbrev pub own_entries : List Capture → List CaptureEntry
 own_entries rs = map own_entry rs
 
 abbrev pub own_note : Annotation → AnnotationEntry
-own_note r = record { start = r.start; count = C.Given (r.end - r.start); texts = r.texts }
+own_note r = record { start = r.start; count = Some (r.end - r.start); texts = r.texts }
 
 abbrev pub own_notes : List Annotation → List AnnotationEntry
 own_notes rs = map own_note rs

@@ -1,42 +1,20 @@
 -- Laws that the proofs of the cut's code cite.
-use Prim.Native.Nat.{ℕ, zero, suc, ◌+◌, ◌-◌, ◌*◌, ◌/◌, ◌≤◌, ◌<◌, ◌^◌, min, max}
-use mathlib.Core.Path.{◌≡◌, refl, sym, ap, ◌∙◌}
-use mathlib.Core.Bool.{Bool, true, false, cond, ◌&&◌}
-use mathlib.Core.List.{List, [], ◌∷◌}
+use Prim.Native.Nat.{ℕ, ◌-◌, ◌*◌, ◌/◌, ◌≤◌, ◌<◌, ◌^◌, min, max}
+use mathlib.Core.Path.{◌≡◌, refl, sym, ◌∙◌}
+use mathlib.Core.Bool.{Bool, true, false}
+use mathlib.Core.List.{List}
 use native.Mathlib.Omega.{arith}
 use native.Mathlib.Nat.{mul-le-mul_right}
-use mir.Syntax.{w64}
-use mir.Val.{Fits}
 use lib.ListN.{length}
-use lib.Dec.{leb, ltb, eqb}
 use borrow.Author.Tests.{le-leb, lt-leb, ltb-true}
-use Rattle.limits.specs.Limits.{dataset}
-use Rattle.table.specs.declared.Capture.{Capture}
-use Rattle.table.specs.declared.Annotation.{Annotation}
 use Rattle.table.specs.declared.Summary.{Summary}
 use Rattle.table.specs.Memory.{written}
 use Rattle.table.specs.Rows.{capture_width, annotation_width, capture_numbers, annotation_numbers, flat, captures, annotations, table}
 use Rattle.table.specs.Table.{well_formed, no_table}
-use Rattle.table.specs.Judge.{Laid}
-use Rattle.table.proofs.TableLaws.{Formed, Numbers, formed_of}
+use Rattle.table.proofs.TableLaws.{formed_of}
 use Rattle.table_pieces.specs.Pieces.{inside}
-use Rattle.table_cuts.specs.Cut.{shares, clip_capture, clip_annotation, cut_captures, cut_annotations, cut_summary, cut, cut_in, cut_answer, cut_capture_memory, cut_annotation_memory}
-use Rattle.table_pieces.proofs.PiecesLaws.{Inside, within}
-
-pub shares_is : (a b s e x y : ℕ) → x ≡ max a s → y ≡ min b e → ltb x y ≡ shares a b s e
-shares_is a b s e x y p q = rw (p, q)
-
-pub clip_fits : (a b w s x : ℕ) → (b - a) * w < 2 ^ 63 → max a s ≤ b → x ≡ max a s → Fits w64 ((x - a) * w)
-clip_fits a b w s x h k e =
-    let z : x - a ≤ b - a = omega arith in
-    omega (arith, mul-le-mul_right w z)
-
-pub clip_capture_lem : (r : Capture) (a b w s e : ℕ) → s ≡ max a r.start → e ≡ min b r.end → record { start = s; end = e; first = (s - a) * w; header = 0 } ≡ clip_capture a b w r
-clip_capture_lem r a b w s e p q = rw (p, q)
-
-pub clip_annotation_lem : (r : Annotation) (a b s e : ℕ) → s ≡ max a r.start → e ≡ min b r.end
-    → record { start = s; end = e; texts = r.texts } ≡ clip_annotation a b r
-clip_annotation_lem r a b s e p q = rw (p, q)
+use Rattle.table_cuts.specs.Cut.{shares, cut_captures, cut_annotations, cut_summary, cut, cut_in, cut_answer, cut_capture_memory, cut_annotation_memory}
+use Rattle.table_pieces.proofs.PiecesLaws.{within}
 
 pub clip_below : (a b s e : ℕ) (t : Bool) → t ≡ shares a b s e → t ≡ true → max a s ≤ b
 clip_below a b s e t u f = omega (arith, ltb-true (max a s) (min b e) (sym u ∙ f))

@@ -1,15 +1,14 @@
 -- A cut of a well-formed table is well formed, in whatever memory its rows stand; cutting it again is cutting the first.
-use Prim.Native.Nat.{ℕ, zero, suc, ◌+◌, ◌-◌, ◌*◌, ◌≤◌, ◌<◌, ◌^◌, min, max}
+use Prim.Native.Nat.{ℕ, ◌+◌, ◌-◌, ◌*◌, ◌≤◌, ◌<◌, min, max}
 use mathlib.Core.Path.{◌≡◌, refl, sym, ap, ◌∙◌}
-use mathlib.Core.Bool.{Bool, true, false, cond, ◌&&◌}
-use mathlib.Core.List.{List, [], ◌∷◌, ◌++◌}
+use mathlib.Core.Bool.{Bool, true, false, cond}
+use mathlib.Core.List.{List, [], ◌∷◌}
 use native.Mathlib.Omega.{arith}
 use native.Mathlib.Decide.{dec_le}
 use native.Mathlib.Nat.{mul-le-mul_right, add-zero}
 use lib.ListN.{length, drop, length-append}
-use lib.Dec.{leb, ltb, eqb}
-use borrow.Author.Tests.{le-ltb, lt-ltb, le-leb, eq-eqb, leb-true, eqb-true, ltb-false}
-use Rattle.limits.specs.Limits.{dataset}
+use lib.Dec.{leb, ltb}
+use borrow.Author.Tests.{le-ltb, lt-ltb, ltb-false}
 use Rattle.table.specs.declared.Capture.{Capture}
 use Rattle.table.specs.declared.Annotation.{Annotation}
 use Rattle.table.specs.declared.Summary.{Summary}
@@ -17,17 +16,16 @@ use Rattle.table.specs.Memory.{written}
 use Rattle.table.specs.Rows.{capture_width, annotation_width, capture_numbers, annotation_numbers, flat, captures, annotations, table}
 use Rattle.table.specs.Samples.{header_sum, headers_to, place, next_start}
 use Rattle.table.specs.Locate.{place_in}
-use Rattle.table.specs.Table.{texts_ok, format_ok, well_formed, own_entries}
-use Rattle.table.specs.Judge.{Laid, capture_ok, captures_ok, annotation_ok, annotations_ok}
-use Rattle.table.proofs.Bools.{and_left, and_right}
+use Rattle.table.specs.Table.{format_ok, own_entries}
+use Rattle.table.specs.Judge.{capture_ok, captures_ok, annotations_ok}
 use Rattle.table.proofs.ObeyLaws.{RowGood, row_good, row_true, rows_true, NoteGood, note_good, note_true}
 use Rattle.table.proofs.RowLaws.{length_flat, captures_back, annotations_back}
-use Rattle.table.proofs.TableLaws.{Formed, Numbers, formed, well_formed_lem}
+use Rattle.table.proofs.TableLaws.{Formed}
 use Rattle.table_pieces.specs.Pieces.{inside}
 use Rattle.table_cuts.specs.Cut.{shares_capture, shares_annotation, clip_capture, clip_annotation, kept, cut_captures, cut_annotations, cut_summary, Rows, cut, rows_of, cut_in}
 use Rattle.table_cuts.proofs.KeepLaws.{kept_yes, kept_no, kept_kept}
-use Rattle.table_pieces.specs.Copy.{samples_from, bytes_in}
-use Rattle.table_pieces.proofs.PiecesLaws.{Inside, within}
+use Rattle.table_pieces.specs.Copy.{bytes_in}
+use Rattle.table_pieces.proofs.PiecesLaws.{within}
 use Rattle.table_pieces.proofs.SampleLaws.{copy_from, whole}
 
 module _ (a b w : ℕ) (r : Capture) (t : List Capture) where

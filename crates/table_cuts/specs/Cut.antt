@@ -1,5 +1,5 @@
 -- Document 01, "Rows, pieces, cuts": cuts; 18, 19, 20.
-use Rattle.std.specs.Prelude.{ℕ, ◌+◌, ◌-◌, ◌*◌, min, max, Bool, ◌&&◌, cond, List, [], ◌∷◌, ◌++◌, length, leb, ltb, eqb}
+use Rattle.std.specs.Prelude.{ℕ, ◌-◌, ◌*◌, min, max, Bool, ◌&&◌, cond, List, [], ◌∷◌, ◌++◌, length, leb, ltb, eqb}
 use Rattle.table.specs.declared.Capture.{Capture}
 use Rattle.table.specs.declared.Annotation.{Annotation}
 use Rattle.table.specs.declared.Summary.{Summary}

@@ -10,29 +10,11 @@ ghost use Rattle.table_cuts.specs.CutRoom.{CutFits};
 use table::{Annotation, Capture, Summary, no_table};
 use table_pieces::is_inside;
 
-fn larger(x: u64, y: u64) -> u64
-    ensures { result ≡ max x y }
-{
-    if x < y {
-        return y;
-    }
-    x
-}
-
-fn smaller(x: u64, y: u64) -> u64
-    ensures { result ≡ min x y }
-{
-    if x < y {
-        return x;
-    }
-    y
-}
-
 // Samples s to e share a sample with a to b.
 fn shares_sample(a: u64, b: u64, s: u64, e: u64) -> bool
     ensures { result ≡ shares a b s e }
 {
-    larger(a, s) < smaller(b, e)
+    a.max(s) < b.min(e)
 }
 
 // A capture clipped to samples a to b, in a recording with no headers that starts at a.
@@ -40,11 +22,11 @@ fn clip_capture(x: Capture, a: u64, b: u64, w: u64) -> Capture
     requires { ((b - a) * w < 2 ^ 63) × (max a x.start ≤ b) }
     ensures { result ≡ clip_capture a b w x }
 {
-    let s = larger(a, x.start);
+    let start = a.max(x.start);
     Capture {
-        start: s,
-        end: smaller(b, x.end),
-        first: (s - a) * w,
+        start,
+        end: b.min(x.end),
+        first: (start - a) * w,
         header: 0,
     }
 }
@@ -53,11 +35,10 @@ fn clip_capture(x: Capture, a: u64, b: u64, w: u64) -> Capture
 fn clip_annotation(x: Annotation, a: u64, b: u64) -> Annotation
     ensures { result ≡ clip_annotation a b x }
 {
-    let texts = x.texts;
     Annotation {
-        start: larger(a, x.start),
-        end: smaller(b, x.end),
-        texts: texts,
+        start: a.max(x.start),
+        end: b.min(x.end),
+        texts: x.texts,
     }
 }
 
@@ -67,10 +48,8 @@ pub(crate) fn count_captures(t: Summary, caps: &[u64], a: u64, b: u64) -> usize
 {
     let n = t.captures as usize;
     let mut c: usize = 0;
-    let mut k: usize = 0;
-    while k < n {
+    for k in 0..n {
         let x = table::capture_at(caps, k);
-        k += 1;
         if shares_sample(a, b, x.start, x.end) {
             c += 1;
         }
@@ -84,10 +63,8 @@ pub(crate) fn count_annotations(t: Summary, notes: &[u64], a: u64, b: u64) -> us
 {
     let n = t.annotations as usize;
     let mut c: usize = 0;
-    let mut k: usize = 0;
-    while k < n {
+    for k in 0..n {
         let x = table::annotation_at(notes, k);
-        k += 1;
         if shares_sample(a, b, x.start, x.end) {
             c += 1;
         }
@@ -103,13 +80,10 @@ fn write_captures(t: Summary, caps: &[u64], a: u64, b: u64, out: &mut [u64])
     let n = t.captures as usize;
     let w = t.width;
     let mut c: usize = 0;
-    let mut k: usize = 0;
-    while k < n {
+    for k in 0..n {
         let x = table::capture_at(caps, k);
-        k += 1;
         if shares_sample(a, b, x.start, x.end) {
-            let y = clip_capture(x, a, b, w);
-            table::put_capture(out, c, y);
+            table::put_capture(out, c, clip_capture(x, a, b, w));
             c += 1;
         }
     }
@@ -122,24 +96,21 @@ fn write_annotations(t: Summary, notes: &[u64], a: u64, b: u64, out: &mut [u64])
 {
     let n = t.annotations as usize;
     let mut c: usize = 0;
-    let mut k: usize = 0;
-    while k < n {
+    for k in 0..n {
         let x = table::annotation_at(notes, k);
-        k += 1;
         if shares_sample(a, b, x.start, x.end) {
-            let y = clip_annotation(x, a, b);
-            table::put_annotation(out, c, y);
+            table::put_annotation(out, c, clip_annotation(x, a, b));
             c += 1;
         }
     }
 }
 
 // The summary of the cut to samples a to b, with n captures and m annotations.
+#[tactic(auto, unfolding(crate::specs::Cut::cut_summary))]
 fn cut_summary(t: Summary, a: u64, b: u64, n: u64, m: u64) -> Summary
     requires { (a ≤ b) × ((b - a) * t.width < 2 ^ 63) }
     ensures { result ≡ cut_summary t a b n m }
 {
-    let rate = t.rate;
     Summary {
         refusal: t.refusal,
         datatype: t.datatype,
@@ -151,7 +122,7 @@ fn cut_summary(t: Summary, a: u64, b: u64, n: u64, m: u64) -> Summary
         size: (b - a) * t.width,
         captures: n,
         annotations: m,
-        rate: rate,
+        rate: t.rate,
     }
 }
 
@@ -192,19 +163,16 @@ pub fn cut(
     ensures captures { capto.new ≡ cut_capture_memory (table t caps.now notes.now) a b capto.old noteto.old }
     ensures annotations { noteto.new ≡ cut_annotation_memory (table t caps.now notes.now) a b capto.old noteto.old }
 {
-    if table::well_formed(t, caps, notes) {
-        if is_inside(t, a, b) {
-            let c = count_captures(t, caps, a, b);
-            let d = count_annotations(t, notes, a, b);
-            if c > capto.len() / Capture::WIDTH {
-                return no_table(20);
-            }
-            if d > noteto.len() / Annotation::WIDTH {
-                return no_table(20);
-            }
-            return write_cut(t, caps, notes, a, b, c as u64, d as u64, capto, noteto);
-        }
+    if !table::well_formed(t, caps, notes) {
+        return no_table(18);
+    }
+    if !is_inside(t, a, b) {
         return no_table(19);
     }
-    no_table(18)
+    let c = count_captures(t, caps, a, b);
+    let d = count_annotations(t, notes, a, b);
+    if c > capto.len() / Capture::WIDTH || d > noteto.len() / Annotation::WIDTH {
+        return no_table(20);
+    }
+    write_cut(t, caps, notes, a, b, c as u64, d as u64, capto, noteto)
 }

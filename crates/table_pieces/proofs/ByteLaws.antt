@@ -1,12 +1,12 @@
 -- The bytes that pieces name: those of samples, none of a header, none of the trailer; pieces ascend and none touches the next.
 use Prim.Native.Nat.{ℕ, zero, suc, ◌+◌, ◌-◌, ◌*◌, ◌≤◌, ◌<◌}
-use mathlib.Core.Path.{◌≡◌, refl, sym, ap, ◌∙◌, subst}
+use mathlib.Core.Path.{◌≡◌, ◌∙◌}
 use mathlib.Core.Bool.{Bool, true, false, cond}
 use mathlib.Core.List.{List, [], ◌∷◌}
 use mathlib.Core.Logic.{◌⊎◌, inl, inr, ⊎_elim}
 use native.Mathlib.Omega.{arith}
 use native.Mathlib.Decide.{dec_le, ℕ_discrete}
-use native.Mathlib.Nat.{mul-le-mul_right, suc-mul}
+use native.Mathlib.Nat.{mul-le-mul_right}
 use lib.Dec.{leb}
 use borrow.Author.Tests.{le-leb, lt-leb}
 use Rattle.table.specs.declared.Capture.{Capture}
@@ -14,7 +14,7 @@ use Rattle.table.specs.Samples.{headers_to, place}
 use Rattle.table.specs.Judge.{captures_ok}
 use Rattle.table.proofs.LocateLaws.{headers_in, headers_out}
 use Rattle.table_pieces.specs.Pieces.{Piece, put, runs}
-use Rattle.table_pieces.specs.Bytes.{Among, OfSample, RowIn, OfHeader, Ascending}
+use Rattle.table_pieces.specs.Bytes.{Among, OfSample, RowIn, Ascending}
 use Rattle.table_pieces.proofs.JoinLaws.{put_touch, put_apart}
 use Rattle.table_pieces.proofs.Walk.{sorted, none_yet, step_on}
 use Rattle.table.proofs.ObeyLaws.{RowGood, row_good}

@@ -2,16 +2,14 @@
 use Prim.Native.Nat.{ℕ, ◌+◌, ◌-◌, ◌*◌, ◌≤◌, ◌<◌}
 use mathlib.Core.Path.{◌≡◌, refl, sym, ap, ◌∙◌}
 use mathlib.Core.Bool.{Bool, true, false}
-use mathlib.Core.List.{List, [], ◌++◌, append_assoc}
+use mathlib.Core.List.{List, [], ◌++◌}
 use native.Mathlib.Omega.{arith}
-use native.Mathlib.Numerals.{add-one}
 use native.Mathlib.Nat.{mul-le-mul_right}
 use mir.Syntax.{w64}
 use mir.Val.{Fits}
-use lib.ListN.{length, get_or, take, drop, set, length-drop}
-use lib.Seq.{paste-zero, paste-suc, length-paste, take-paste, drop-paste, length-take-le, get_or-drop, take_at, take-add, drop-drop}
+use lib.ListN.{length, take, drop, length-drop}
+use lib.Seq.{length-take-le}
 use borrow.Author.Tests.{le-leb, lt-leb, eq-eqb, ne_eqb}
-use Rattle.table.specs.declared.Capture.{Capture}
 use Rattle.table.specs.declared.Summary.{Summary}
 use Rattle.table.specs.Memory.{written}
 use Rattle.table.specs.Rows.{capture_at, rest, captures, table}
@@ -19,72 +17,17 @@ use Rattle.table.specs.Samples.{place}
 use Rattle.table.specs.Table.{well_formed}
 use Rattle.table.specs.Judge.{Laid}
 use Rattle.table.specs.Locate.{place_in}
-use Rattle.table.proofs.TableLaws.{Formed, formed_of}
+use Rattle.table.proofs.TableLaws.{formed_of}
 use Rattle.table.proofs.Filling.{Filling, fill_none, fill_many, fill_room, fill_all}
 use Rattle.table_pieces.specs.declared.Run.{Run}
+use Rattle.table.specs.declared.Wrote.{Wrote}
 use Rattle.table.specs.Wrote.{wrote}
 use Rattle.table_pieces.specs.Pieces.{inside}
 use Rattle.table_pieces.specs.Run.{run_from, put_bytes}
 use Rattle.table_pieces.specs.Copy.{samples_from, bytes_in, bytes_of, copy_answer, copy_memory}
 use Rattle.table_pieces.proofs.Walk.{Walking}
-use Rattle.table_pieces.proofs.PiecesLaws.{Inside, within, walk_begin, found, run_inside}
+use Rattle.table_pieces.proofs.PiecesLaws.{within, walk_begin, found, run_inside}
 use Rattle.table_pieces.proofs.SampleLaws.{bytes_runs, length_bytes}
-
--- ---- byte by byte
-pub byte_none : (m : List ℕ) (p : ℕ) (d : List ℕ) (f : ℕ) → m ≡ put_bytes m p d f 0
-byte_none m p d f = paste-zero m p (drop f d)
-
-module _ (m : List ℕ) (p : ℕ) (d : List ℕ) (f n j : ℕ) (out : List ℕ) (e : out ≡ put_bytes m p d f j) (x : f + n ≤ length d) (y : p + n ≤ length m) where
-  pub byte_on : j < n → set out (p + j) (get_or d (f + j) 0) ≡ put_bytes m p d f (j + 1)
-  byte_on z = rw (e, ← get_or-drop f d j 0, add-one j) (paste-suc m p (drop f d) j 0 (omega arith) (omega (arith, length-drop f d)))
-
-  pub byte_long : j ≤ n → length out ≡ length m
-  byte_long z = ap length e ∙ length-paste m p (drop f d) j (omega arith) (omega (arith, length-drop f d))
-
-  pub byte_in : j < n → p + j < length out
-  byte_in z = omega (arith, byte_long (omega arith))
-
-  pub byte_all : j ≤ n → n ≤ j → out ≡ put_bytes m p d f n
-  byte_all u v = let z : n ≡ j = omega arith in rw z e
-
--- ---- chunk by chunk
--- k bytes moved through the front of z are the bytes
-pub through : (m : List ℕ) (p : ℕ) (d : List ℕ) (f k : ℕ) (z z' out : List ℕ) → f + k ≤ length d → z' ≡ put_bytes z 0 d f k → out ≡ put_bytes m p z' 0 k → out ≡ put_bytes m p d f k
-through m p d f k z z' out g e q =
-    q ∙ ap (λ (x : List ℕ). take p m ++ x ++ drop (p + k) m)
-    (ap (take k) e ∙ take_at (take k (drop f d)) (drop (0 + k) z) k (length-take-le k (drop f d) (omega (arith, length-drop f d))))
-
-module _ (m : List ℕ) (p : ℕ) (d : List ℕ) (f n j : ℕ) (out : List ℕ) (e : out ≡ put_bytes m p d f j) (x : f + n ≤ length d) (y : p + n ≤ length m) (u : j ≤ n) where
-  pub part_long : length out ≡ length m
-  part_long = ap length e ∙ length-paste m p (drop f d) j (omega arith) (omega (arith, length-drop f d))
-
-  pub part_on : (k : ℕ) → k ≤ n - j → (out' : List ℕ) → out' ≡ put_bytes out (p + j) d (f + j) k → out' ≡ put_bytes m p d f (j + k)
-  part_on k h out' q = q ∙ rw (front, back, middle)
-    where
-      front : take (p + j) out ≡ take p m ++ take j (drop f d)
-      front = rw e (take-paste m p (drop f d) j (omega arith) (omega (arith, length-drop f d)))
-
-      back : drop (p + j + k) out ≡ drop (p + (j + k)) m
-      back =
-          let v : p + j + k ≡ p + (j + k) = omega arith in
-          rw e (sym (drop-drop k (p + j) (put_bytes m p d f j)) ∙ ap (drop k) (drop-paste m p (drop f d) j (omega arith) (omega (arith, length-drop f d))) ∙ drop-drop k (p + j) m ∙ rw v)
-
-      middle : (take p m ++ take j (drop f d)) ++ take k (drop (f + j) d) ≡ take p m ++ take (j + k) (drop f d)
-      middle = append_assoc (take p m) (take j (drop f d)) (take k (drop (f + j) d)) ∙ ap (λ (l : List ℕ). take p m ++ l) (sym (take-add j k (drop f d) ∙ rw (drop-drop j f d)))
-
-  pub part_room : (k : ℕ) → k ≤ n - j → p + j + k ≤ length out
-  part_room k h = omega (arith, part_long)
-
-  pub end_room : p + j + (n - j) ≤ length out
-  end_room = omega (arith, part_long)
-
-  pub end_is : (out' : List ℕ) → out' ≡ put_bytes out (p + j) d (f + j) (n - j) → out' ≡ put_bytes m p d f n
-  end_is out' q =
-      let v : j + (n - j) ≡ n = omega arith in
-      rw v at (part_on (n - j) (omega arith) out' q)
-
-  pub end_long : (out' : List ℕ) → out' ≡ put_bytes out (p + j) d (f + j) (n - j) → length out' ≡ length m
-  end_long out' q = ap length (end_is out' q) ∙ length-paste m p (drop f d) n (omega arith) (omega (arith, length-drop f d))
 
 -- ---- the state of the walk that copies
 abbrev samples : List ℕ → List ℕ → ℕ → ℕ → ℕ → ℕ → ℕ → List ℕ
@@ -133,28 +76,28 @@ module _ (t : Summary) (l d m : List ℕ) (a b : ℕ) (L : Laid t l) (g : length
 
 -- ---- the answer, and the memory after it
 module _ (t : Summary) (l ns d : List ℕ) (a b : ℕ) (m : List ℕ) (p : Bool) (e : p ≡ well_formed (table t l ns)) where
-  pub copy_18 : p ≡ false → wrote 18 0 ≡ copy_answer (table t l ns) d a b (length m)
+  pub copy_18 : (r : Wrote) → r ≡ wrote 18 0 → p ≡ false → r ≡ copy_answer (table t l ns) d a b (length m)
   unfolding copy_answer
-  copy_18 f = rw (sym e ∙ f)
+  copy_18 r z f = rw (sym e ∙ f) z
 
   pub kept_18 : p ≡ false → m ≡ copy_memory (table t l ns) d a b m
-  kept_18 f = rw (← copy_18 f)
+  kept_18 f = rw (← copy_18 (wrote 18 0) refl f)
 
   module _ (f : p ≡ true) where
-    pub copy_size : (length d ≡ t.size → ⊥) → wrote 18 0 ≡ copy_answer (table t l ns) d a b (length m)
+    pub copy_size : (r : Wrote) → r ≡ wrote 18 0 → (length d ≡ t.size → ⊥) → r ≡ copy_answer (table t l ns) d a b (length m)
     unfolding copy_answer
-    copy_size x = rw (sym e ∙ f, ne_eqb _ _ x)
+    copy_size r z x = rw (sym e ∙ f, ne_eqb _ _ x) z
 
     pub kept_size : (length d ≡ t.size → ⊥) → m ≡ copy_memory (table t l ns) d a b m
-    kept_size x = rw (← copy_size x)
+    kept_size x = rw (← copy_size (wrote 18 0) refl x)
 
     module _ (x : length d ≡ t.size) (q : Bool) (g : q ≡ inside t a b) where
-      pub copy_19 : q ≡ false → wrote 19 0 ≡ copy_answer (table t l ns) d a b (length m)
+      pub copy_19 : (r : Wrote) → r ≡ wrote 19 0 → q ≡ false → r ≡ copy_answer (table t l ns) d a b (length m)
       unfolding copy_answer
-      copy_19 h = rw (sym e ∙ f, eq-eqb _ _ x, sym g ∙ h)
+      copy_19 r z h = rw (sym e ∙ f, eq-eqb _ _ x, sym g ∙ h) z
 
       pub kept_19 : q ≡ false → m ≡ copy_memory (table t l ns) d a b m
-      kept_19 h = rw (← copy_19 h)
+      kept_19 h = rw (← copy_19 (wrote 19 0) refl h)
 
       module _ (h : q ≡ true) where
         pub copy_up : a ≤ b
@@ -172,14 +115,14 @@ module _ (t : Summary) (l ns d : List ℕ) (a b : ℕ) (m : List ℕ) (p : Bool)
         pub copy_room : (b - a) * t.width ≤ length m → length (bytes_in (table t l []) d a b) ≤ length m
         copy_room z = rw copy_long z
 
-        pub copy_20 : length m < (b - a) * t.width → wrote 20 0 ≡ copy_answer (table t l ns) d a b (length m)
+        pub copy_20 : (r : Wrote) → r ≡ wrote 20 0 → length m < (b - a) * t.width → r ≡ copy_answer (table t l ns) d a b (length m)
         unfolding copy_answer
-        copy_20 z =
+        copy_20 r u z =
             let y : length m < length (bytes_in (table t l []) d a b) = rw copy_long z in
-            rw (sym e ∙ f, eq-eqb _ _ x, sym g ∙ h, lt-leb _ _ y)
+            rw (sym e ∙ f, eq-eqb _ _ x, sym g ∙ h, lt-leb _ _ y) u
 
         pub kept_20 : length m < (b - a) * t.width → m ≡ copy_memory (table t l ns) d a b m
-        kept_20 z = rw (← copy_20 z)
+        kept_20 z = rw (← copy_20 (wrote 20 0) refl z)
 
         pub copy_0 : (b - a) * t.width ≤ length m → wrote 0 ((b - a) * t.width) ≡ copy_answer (table t l ns) d a b (length m)
         unfolding copy_answer

@@ -17,7 +17,7 @@ use Rattle.table_pieces.specs.Pieces.{pieces_in, followed, inside}
 use Rattle.table_pieces.specs.Copy.{bytes_in, bytes_of}
 use Rattle.table_pieces.specs.Bytes.{Among, OfSample, RowIn, OfHeader, Ascending}
 use Rattle.table_pieces.proofs.JoinLaws.{runs_followed}
-use Rattle.table_pieces.proofs.PiecesLaws.{Inside, within}
+use Rattle.table_pieces.proofs.PiecesLaws.{within}
 use Rattle.table_pieces.proofs.SampleLaws.{bytes_runs, before_trailer}
 use Rattle.table_pieces.proofs.ByteLaws.{among_runs, runs_among, header_apart, runs_ascend, place_up}
 

@@ -18,7 +18,7 @@ use Rattle.table.specs.Rows.{capture_at, rest, captures, flat, table}
 use Rattle.table.specs.Samples.{header_sum}
 use Rattle.table.specs.Table.{well_formed, own_entries}
 use Rattle.table.specs.Judge.{Laid}
-use Rattle.table.proofs.Bools.{and_left, and_right, leb_same}
+use Rattle.table.proofs.Bools.{and_left, and_right}
 use Rattle.table.proofs.Filling.{Filling, fill_none, fill_row, fill_room, fill_all}
 use Rattle.table.specs.declared.Wrote.{Wrote}
 use Rattle.table_pieces.specs.declared.Run.{Run}
@@ -42,19 +42,6 @@ within t a b e =
 pub inside_true : (t : Summary) (a b : ℕ) → t.offset ≤ a → a ≤ b → b ≤ t.offset + t.samples → inside t a b ≡ true
 unfolding inside
 inside_true t a b p q r = rw (le-leb _ _ p, le-leb _ _ q, le-leb _ _ r)
-
-module _ (t : Summary) (a b : ℕ) where
-  pub in_low : a < t.offset → false ≡ inside t a b
-  unfolding inside
-  in_low h = rw (lt-leb _ _ h)
-
-  pub in_up : t.offset ≤ a → b < a → false ≡ inside t a b
-  unfolding inside
-  in_up h k = rw (le-leb _ _ h, lt-leb _ _ k)
-
-  pub in_high : t.offset ≤ a → a ≤ b → leb (b - t.offset) t.samples ≡ inside t a b
-  unfolding inside
-  in_high h k = rw (le-leb _ _ h, le-leb _ _ k) (leb_same (b - t.offset) t.samples b (t.offset + t.samples) (λ z. omega arith) (λ z. omega arith))
 
 -- ---- the walk over the captures of a table
 module _ (t : Summary) (l : List ℕ) (a b : ℕ) (L : Laid t l) (f : inside t a b ≡ true) where
@@ -177,30 +164,30 @@ pub half_room : (c n L : ℕ) → c ≡ n → c ≤ L / 2 → 2 * n ≤ L
 half_room c n L e h = omega arith
 
 module _ (t : Summary) (l ns : List ℕ) (a b : ℕ) (m : List ℕ) (p : Bool) (e : p ≡ well_formed (table t l ns)) where
-  pub ans_18 : p ≡ false → wrote 18 0 ≡ pieces_answer (table t l ns) a b (length m)
+  pub ans_18 : (r : Wrote) → r ≡ wrote 18 0 → p ≡ false → r ≡ pieces_answer (table t l ns) a b (length m)
   unfolding pieces_answer
-  ans_18 f = rw (sym e ∙ f)
+  ans_18 r z f = rw (sym e ∙ f) z
 
   pub out_18 : p ≡ false → m ≡ pieces_memory (table t l ns) a b m
-  out_18 f = rw (← ans_18 f)
+  out_18 f = rw (← ans_18 (wrote 18 0) refl f)
 
   module _ (f : p ≡ true) (q : Bool) (g : q ≡ inside t a b) where
-    pub ans_19 : q ≡ false → wrote 19 0 ≡ pieces_answer (table t l ns) a b (length m)
+    pub ans_19 : (r : Wrote) → r ≡ wrote 19 0 → q ≡ false → r ≡ pieces_answer (table t l ns) a b (length m)
     unfolding pieces_answer
-    ans_19 h = rw (sym e ∙ f, sym g ∙ h)
+    ans_19 r z h = rw (sym e ∙ f, sym g ∙ h) z
 
     pub out_19 : q ≡ false → m ≡ pieces_memory (table t l ns) a b m
-    out_19 h = rw (← ans_19 h)
+    out_19 h = rw (← ans_19 (wrote 19 0) refl h)
 
     module _ (c : ℕ) (h : q ≡ true) (k : c ≡ length (pieces_in (table t l []) a b)) where
-      pub ans_20 : length m / 2 < c → wrote 20 0 ≡ pieces_answer (table t l ns) a b (length m)
+      pub ans_20 : (r : Wrote) → r ≡ wrote 20 0 → length m / 2 < c → r ≡ pieces_answer (table t l ns) a b (length m)
       unfolding pieces_answer
-      ans_20 z =
+      ans_20 r u z =
           let y : length m < 2 * length (pieces_in (table t l []) a b) = omega arith in
-          rw (sym e ∙ f, sym g ∙ h, lt-leb _ _ y)
+          rw (sym e ∙ f, sym g ∙ h, lt-leb _ _ y) u
 
       pub out_20 : length m / 2 < c → m ≡ pieces_memory (table t l ns) a b m
-      out_20 z = rw (← ans_20 z)
+      out_20 z = rw (← ans_20 (wrote 20 0) refl z)
 
       pub ans_0 : c ≤ length m / 2 → wrote 0 c ≡ pieces_answer (table t l ns) a b (length m)
       unfolding pieces_answer

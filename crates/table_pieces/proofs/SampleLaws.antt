@@ -1,6 +1,6 @@
 -- The bytes of samples: those of the pieces, in the dataset, and in a copy.
 use Prim.Native.Nat.{ℕ, zero, suc, ◌+◌, ◌-◌, ◌*◌, ◌≤◌, ◌<◌}
-use mathlib.Core.Path.{◌≡◌, refl, sym, ap, ◌∙◌, subst}
+use mathlib.Core.Path.{◌≡◌, refl, ap, ◌∙◌, subst}
 use mathlib.Core.Bool.{true}
 use mathlib.Core.List.{List, [], ◌∷◌, ◌++◌, append_assoc}
 use native.Mathlib.Omega.{arith}
@@ -17,7 +17,7 @@ use Rattle.table.proofs.LocateLaws.{headers_le}
 use Rattle.table_pieces.specs.Pieces.{Piece, put, runs, inside}
 use Rattle.table_pieces.specs.Copy.{sample_from, samples_from, bytes_in, bytes_of}
 use Rattle.table_pieces.proofs.JoinLaws.{put_touch, put_apart}
-use Rattle.table_pieces.proofs.PiecesLaws.{Inside, within}
+use Rattle.table_pieces.proofs.PiecesLaws.{within}
 
 -- ---- the bytes of pieces
 slice_join : (d : List ℕ) (at m n : ℕ) → take (m + n) (drop at d) ≡ take m (drop at d) ++ take n (drop (at + m) d)

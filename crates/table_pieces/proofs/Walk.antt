@@ -1,15 +1,15 @@
 -- Pieces capture by capture: the next run that the code finds is the next of the pieces that specs/ define sample by sample.
-use Prim.Native.Nat.{ℕ, zero, suc, ◌+◌, ◌-◌, ◌*◌, ◌≤◌, ◌<◌, ◌^◌}
+use Prim.Native.Nat.{ℕ, zero, suc, ◌+◌, ◌-◌, ◌*◌, ◌≤◌, ◌<◌, ◌^◌, max}
 use mathlib.Core.Path.{◌≡◌, refl, sym, ap, ◌∙◌}
 use mathlib.Core.Bool.{Bool, true, false, cond, ◌&&◌, false≢true}
 use mathlib.Core.List.{List, [], ◌∷◌}
 use native.Mathlib.Omega.{arith}
-use native.Mathlib.Decide.{dec_le, ℕ_discrete}
+use native.Mathlib.Decide.{dec_le}
 use native.Mathlib.Nat.{add-zero, add_assoc, add_comm, suc-mul, add-mul}
 use mir.Syntax.{w64}
 use mir.Val.{Fits}
 use lib.Dec.{leb, ltb, eqb}
-use borrow.Author.Tests.{le-ltb, lt-ltb, le-leb, lt-leb, leb-true, leb-false, ltb-true}
+use borrow.Author.Tests.{lt-ltb, le-leb, lt-leb, leb-true, leb-false, ltb-true}
 use Rattle.table.specs.declared.Capture.{Capture}
 use Rattle.table.specs.Samples.{header_sum, headers_to, place, next_start}
 use Rattle.table.specs.Table.{own_entries}
@@ -108,26 +108,21 @@ breaks_no i j r t e h = elim (dec_le r.start j) [ yes k ↦ headers_in r t j k |
         omega (arith, headers_out r t j k)
 
 -- ---- the code that finds the next run
-pub break_in : (x : Capture) (i : ℕ) → x.start ≤ i → false ≡ breaks i x
-unfolding breaks
-break_in x i h = rw (le-ltb _ _ h)
-
-pub break_past : (x : Capture) (i : ℕ) → i < x.start → ltb 0 x.header ≡ breaks i x
-unfolding breaks
-break_past x i h = rw (lt-ltb _ _ h)
-
--- at row j of n, past g header bytes: R is the run
-pub record Finding (l : List ℕ) (n b i j g H : ℕ) (R : Run) : Type 0 where
+-- at row j of n, from row k on, past g header bytes: R is the run
+pub record Finding (l : List ℕ) (n b i k j g H : ℕ) (R : Run) : Type 0 where
+  pub upto : j ≤ max n k
   pub sum : g + header_sum (own_entries (rest (capture_at l) n j)) ≤ H
   pub run : run_from b i g j (rest (capture_at l) n j) ≡ R
 
-pub find_begin : (l : List ℕ) (n b i k h : ℕ) → Finding l n b i k h (h + header_sum (own_entries (rest (capture_at l) n k))) (run_from b i h k (rest (capture_at l) n k))
-find_begin l n b i k h = record { sum = omega arith; run = refl }
+pub find_begin : (l : List ℕ) (n b i k h : ℕ) → Finding l n b i k k h (h + header_sum (own_entries (rest (capture_at l) n k))) (run_from b i h k (rest (capture_at l) n k))
+find_begin l n b i k h = record { upto = omega arith; sum = omega arith; run = refl }
 
-module _ (l : List ℕ) (n b i j g H : ℕ) (R : Run) (S : Finding l n b i j g H R) where
-  pub find_none : n ≤ j → record { headers = g; end = b; row = j } ≡ R
+module _ (l : List ℕ) (n b i k j g H : ℕ) (R : Run) (S : Finding l n b i k j g H R) where
+  pub find_none : k ≤ j → n ≤ j → (row : ℕ) → row ≡ max n k → record { headers = g; end = b; row = row } ≡ R
   unfolding run_from
-  find_none h = rw (rest_none (capture_at l) n j h) at S.run
+  find_none d h row e =
+      let q : row ≡ j = omega (arith, S.upto) in
+      rw q (rw (rest_none (capture_at l) n j h) at S.run)
 
   module _ (x : Capture) (e : x ≡ capture_at l j) (lt : j < n) where
     pub find_past : b ≤ x.start → record { headers = g; end = b; row = j } ≡ R
@@ -139,9 +134,9 @@ module _ (l : List ℕ) (n b i j g H : ℕ) (R : Run) (S : Finding l n b i j g H
       unfolding run_from
       find_break f = rw (rest_at (capture_at l) n j x e lt, lt-leb _ _ h, sym u ∙ f) at S.run
 
-      pub find_on : q ≡ false → Finding l n b i (j + 1) (g + x.header) H R
+      pub find_on : q ≡ false → Finding l n b i k (j + 1) (g + x.header) H R
       unfolding run_from
-      find_on f = record { sum = omega (arith, S.sum, sum_split l n j x e lt); run = rw (rest_at (capture_at l) n j x e lt, lt-leb _ _ h, sym u ∙ f) at S.run }
+      find_on f = record { upto = omega arith; sum = omega (arith, S.sum, sum_split l n j x e lt); run = rw (rest_at (capture_at l) n j x e lt, lt-leb _ _ h, sym u ∙ f) at S.run }
 
     pub find_fits : H < 2 ^ 63 → Fits w64 (g + x.header)
     find_fits h = omega (arith, S.sum, sum_split l n j x e lt)

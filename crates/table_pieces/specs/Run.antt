@@ -1,4 +1,4 @@
--- For the code: the next run of samples whose bytes follow each other, from the rows that are left, and bytes moved in chunks.
+-- For the code: the next run of samples whose bytes follow each other, from the rows that are left, and bytes put into memory.
 use Rattle.std.specs.Prelude.{ℕ, ◌+◌, ◌-◌, ◌*◌, Bool, ◌&&◌, cond, List, [], ◌∷◌, ◌++◌, take, drop, leb, ltb}
 use Rattle.table.specs.declared.Capture.{Capture}
 use Rattle.table_pieces.specs.declared.Run.{Run}
@@ -23,7 +23,3 @@ piece o w h i e = record { first = (i - o) * w + h; len = (e - i) * w }
 -- n bytes of d from place f on, put into m from place p on
 abbrev pub put_bytes : List ℕ → ℕ → List ℕ → ℕ → ℕ → List ℕ
 put_bytes m p d f n = take p m ++ take n (drop f d) ++ drop (p + n) m
-
--- how many bytes the code moves at once, at most
-abbrev pub chunk : ℕ
-chunk = 16384

@@ -6,8 +6,9 @@ ghost use Rattle.table.specs.Memory.{written, put_row};
 ghost use Rattle.table.specs.Rows.{capture_at, rest, flat, table};
 ghost use Rattle.table.specs.Samples.{header_sum};
 ghost use Rattle.table.specs.Judge.{Laid};
+ghost use Rattle.table.specs.Wrote.{wrote};
 ghost use Rattle.table_pieces.specs.Pieces.{piece_width, piece_numbers, pieces_in, inside, pieces_answer, pieces_memory};
-ghost use Rattle.table_pieces.specs.Run.{breaks, run_from, piece, put_bytes, chunk};
+ghost use Rattle.table_pieces.specs.Run.{breaks, run_from, piece, put_bytes};
 ghost use Rattle.table_pieces.specs.Copy.{bytes_in, copy_answer, copy_memory};
 ghost use Rattle.table.specs.Table.{own_entries};
 
@@ -21,27 +22,30 @@ struct Run {
     row: usize,
 }
 
+// Nothing written: refusal n.
+fn refused(n: u64) -> Wrote
+    ensures { result ≡ wrote n 0 }
+{
+    Wrote {
+        refusal: n,
+        count: 0,
+    }
+}
+
 // Samples a to b are in the recording.
+#[tactic(auto, unfolding(crate::specs::Pieces::inside))]
 pub fn is_inside(t: Summary, a: u64, b: u64) -> bool
     ensures { result ≡ inside t a b }
 {
-    if a < t.offset {
-        return false;
-    }
-    if b < a {
-        return false;
-    }
-    b - t.offset <= t.samples
+    t.offset <= a && a <= b && b - t.offset <= t.samples
 }
 
 // The header of x stands between sample i and a later one.
+#[tactic(auto, unfolding(crate::specs::Run::breaks))]
 fn breaks_run(x: Capture, i: u64) -> bool
     ensures { result ≡ breaks i x }
 {
-    if x.start <= i {
-        return false;
-    }
-    0 < x.header
+    i < x.start && 0 < x.header
 }
 
 // The next run of samples before b, from sample i on, past h header bytes, where row k of n is the first that is left.
@@ -50,8 +54,7 @@ pub(crate) fn next_run(caps: &[u64], n: usize, b: u64, i: u64, h: u64, k: usize)
     ensures { result ≡ run_from b i h k (rest (capture_at caps.now) n k) }
 {
     let mut g = h;
-    let mut j = k;
-    while j < n {
+    for j in k..n {
         let x = table::capture_at(caps, j);
         if b <= x.start {
             return Run {
@@ -68,12 +71,11 @@ pub(crate) fn next_run(caps: &[u64], n: usize, b: u64, i: u64, h: u64, k: usize)
             };
         }
         g += x.header;
-        j += 1;
     }
     Run {
         headers: g,
         end: b,
-        row: j,
+        row: n.max(k),
     }
 }
 
@@ -133,68 +135,21 @@ pub fn pieces(t: Summary, caps: &[u64], notes: &[u64], a: u64, b: u64, out: &mut
     ensures answer { result ≡ pieces_answer (table t caps.now notes.now) a b (length out.old) }
     ensures memory { out.new ≡ pieces_memory (table t caps.now notes.now) a b out.old }
 {
-    if table::well_formed(t, caps, notes) {
-        if is_inside(t, a, b) {
-            let c = count_pieces(t, caps, a, b);
-            if c <= out.len() / 2 {
-                write_pieces(t, caps, a, b, out);
-                return Wrote {
-                    refusal: 0,
-                    count: c as u64,
-                };
-            }
-            return Wrote {
-                refusal: 20,
-                count: 0,
-            };
-        }
-        return Wrote {
-            refusal: 19,
-            count: 0,
-        };
+    if !table::well_formed(t, caps, notes) {
+        return refused(18);
     }
+    if !is_inside(t, a, b) {
+        return refused(19);
+    }
+    let c = count_pieces(t, caps, a, b);
+    if c > out.len() / 2 {
+        return refused(20);
+    }
+    write_pieces(t, caps, a, b, out);
     Wrote {
-        refusal: 18,
-        count: 0,
+        refusal: 0,
+        count: c as u64,
     }
-}
-
-// How many bytes a copy moves at once, at most, through an array of its own: two loops that LLVM makes one memmove.
-const CHUNK: usize = 16384;
-
-// n bytes from place f on, written to out from place p on, one by one.
-fn move_bytes(bytes: &[u8], f: usize, n: usize, out: &mut [u8], p: usize)
-    requires { (f + n ≤ length bytes.now) × (p + n ≤ length out.old) }
-    ensures { out.new ≡ put_bytes out.old p bytes.now f n }
-{
-    let mut j: usize = 0;
-    while j < n {
-        out[p + j] = bytes[f + j];
-        j += 1;
-    }
-}
-
-// n bytes, a chunk at most, from place f on, written to out from place p on.
-fn move_chunk(bytes: &[u8], f: usize, n: usize, out: &mut [u8], p: usize)
-    requires { (n ≤ chunk) × (f + n ≤ length bytes.now) × (p + n ≤ length out.old) }
-    ensures { out.new ≡ put_bytes out.old p bytes.now f n }
-{
-    let mut buffer = [0u8; CHUNK];
-    move_bytes(bytes, f, n, &mut buffer, 0);
-    move_bytes(&buffer, 0, n, out, p);
-}
-
-// n bytes of a dataset from place f on, written to out from place p on.
-fn copy_bytes(bytes: &[u8], f: usize, n: usize, out: &mut [u8], p: usize)
-    requires { (f + n ≤ length bytes.now) × (p + n ≤ length out.old) }
-    ensures { out.new ≡ put_bytes out.old p bytes.now f n }
-{
-    let mut j: usize = 0;
-    while n - j >= CHUNK {
-        move_chunk(bytes, f + j, CHUNK, out, p + j);
-        j += CHUNK;
-    }
-    move_chunk(bytes, f + j, n - j, out, p + j);
 }
 
 // The bytes of samples i to e, past h header bytes, written to out from place p on; and where they end there.
@@ -205,7 +160,7 @@ fn copy_run(bytes: &[u8], o: u64, w: u64, h: u64, i: u64, e: u64, out: &mut [u8]
 {
     let f = ((i - o) * w + h) as usize;
     let n = ((e - i) * w) as usize;
-    copy_bytes(bytes, f, n, out, p);
+    out[p..p + n].copy_from_slice(&bytes[f..f + n]);
     p + n
 }
 
@@ -243,34 +198,22 @@ pub fn copy(
     ensures answer { result ≡ copy_answer (table t caps.now notes.now) bytes.now a b (length out.old) }
     ensures memory { out.new ≡ copy_memory (table t caps.now notes.now) bytes.now a b out.old }
 {
-    if table::well_formed(t, caps, notes) {
-        if bytes.len() as u64 != t.size {
-            return Wrote {
-                refusal: 18,
-                count: 0,
-            };
-        }
-        if is_inside(t, a, b) {
-            let n = (b - a) * t.width;
-            if n <= out.len() as u64 {
-                copy_samples(t, caps, bytes, a, b, out);
-                return Wrote {
-                    refusal: 0,
-                    count: n,
-                };
-            }
-            return Wrote {
-                refusal: 20,
-                count: 0,
-            };
-        }
-        return Wrote {
-            refusal: 19,
-            count: 0,
-        };
+    if !table::well_formed(t, caps, notes) {
+        return refused(18);
     }
+    if bytes.len() as u64 != t.size {
+        return refused(18);
+    }
+    if !is_inside(t, a, b) {
+        return refused(19);
+    }
+    let n = (b - a) * t.width;
+    if n > out.len() as u64 {
+        return refused(20);
+    }
+    copy_samples(t, caps, bytes, a, b, out);
     Wrote {
-        refusal: 18,
-        count: 0,
+        refusal: 0,
+        count: n,
     }
 }

@@ -9,7 +9,7 @@ use lib.ListN.{length, take, drop, length-append, length-drop, take-append-drop}
 use lib.Seq.{take_at, drop_at, take-add, take_all, length-take-le}
 use lib.Dec.{leb}
 use borrow.Author.Tests.{le-leb, eq-eqb, leb-true, eqb-true}
-use Rattle.limits.specs.Limits.{metadata, dataset, channels}
+use Rattle.limits.specs.Limits.{metadata, dataset}
 use Rattle.json_names.specs.Same.{same}
 use Rattle.json_names.proofs.SameLaws.{same_is}
 use Rattle.sigmf_datatypes.proofs.Laws.{counted, listed_below, width_most}

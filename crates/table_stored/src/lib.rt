@@ -41,28 +41,19 @@ fn put_number(out: &mut [u8], x: u64)
     requires { 8 ≤ length out.old }
     ensures { out.new ≡ written (little_endian number_width x) out.old }
 {
-    out[0] = (x % 0x100) as u8;
-    out[1] = (x / 0x100 % 0x100) as u8;
-    out[2] = (x / 0x10000 % 0x100) as u8;
-    out[3] = (x / 0x1000000 % 0x100) as u8;
-    out[4] = (x / 0x100000000 % 0x100) as u8;
-    out[5] = (x / 0x10000000000 % 0x100) as u8;
-    out[6] = (x / 0x1000000000000 % 0x100) as u8;
-    out[7] = (x / 0x100000000000000 % 0x100) as u8;
+    out[..WIDTH].copy_from_slice(&x.to_le_bytes());
 }
 
-// The first n numbers, written to the front of out, which has room; how many bytes they are.
-fn put_numbers(out: &mut [u8], numbers: &[u64], n: usize) -> usize
-    requires { (n ≤ length numbers.now) × (8 * n ≤ length out.old) }
-    ensures count { result ≡ length (eight_each (take n numbers.now)) }
-    ensures memory { out.new ≡ written (eight_each (take n numbers.now)) out.old }
+// Numbers, written to the front of out, which has room; how many bytes they are.
+fn put_numbers(out: &mut [u8], numbers: &[u64]) -> usize
+    requires { 8 * length numbers.now ≤ length out.old }
+    ensures count { result ≡ length (eight_each numbers.now) }
+    ensures memory { out.new ≡ written (eight_each numbers.now) out.old }
 {
-    let mut used: usize = 0;
-    let mut k: usize = 0;
-    while k < n {
-        put_number(&mut out[used..], numbers[k]);
+    let mut used = 0;
+    for x in numbers {
+        put_number(&mut out[used..], *x);
         used += WIDTH;
-        k += 1;
     }
     used
 }
@@ -87,7 +78,7 @@ fn put_summary(out: &mut [u8], t: Summary) -> usize
         t.rate.at,
         t.rate.len,
     ];
-    put_numbers(out, &numbers, NUMBERS)
+    put_numbers(out, &numbers)
 }
 
 // The stored form of a table whose counts fit its rows, written to the front of out, which has room; how many bytes it is.
@@ -97,15 +88,12 @@ fn put_table(out: &mut [u8], t: Summary, caps: &[u64], notes: &[u64]) -> usize
     ensures count { result ≡ length (stored_of (table t caps.now notes.now)) }
     ensures memory { out.new ≡ written (stored_of (table t caps.now notes.now)) out.old }
 {
+    let caps = &caps[..Capture::WIDTH * t.captures as usize];
+    let notes = &notes[..Annotation::WIDTH * t.annotations as usize];
     let a = put_word(out, b"SGT\x01\x00");
     let b = a + put_summary(&mut out[a..], t);
-    let c = b + put_numbers(&mut out[b..], caps, Capture::WIDTH * t.captures as usize);
-    let d = put_numbers(
-        &mut out[c..],
-        notes,
-        Annotation::WIDTH * t.annotations as usize,
-    );
-    c + d
+    let c = b + put_numbers(&mut out[b..], caps);
+    c + put_numbers(&mut out[c..], notes)
 }
 
 // A room of n bytes holds the stored form.
@@ -117,10 +105,7 @@ fn has_room(t: Summary, n: usize) -> bool
     }
     let rows = (n - HEAD) / ROW;
     let c = t.captures as usize;
-    if c > rows {
-        return false;
-    }
-    t.annotations as usize <= rows - c
+    c <= rows && t.annotations as usize <= rows - c
 }
 
 // The table, stored to the front of out.
@@ -128,22 +113,22 @@ pub fn store(t: Summary, caps: &[u64], notes: &[u64], out: &mut [u8]) -> Wrote
     ensures answer { result ≡ store_answer (table t caps.now notes.now) (length out.old) }
     ensures memory { out.new ≡ store_memory (table t caps.now notes.now) out.old }
 {
-    if table::well_formed(t, caps, notes) {
-        if has_room(t, out.len()) {
-            let n = put_table(out, t, caps, notes);
-            return Wrote {
-                refusal: 0,
-                count: n as u64,
-            };
-        }
+    if !table::well_formed(t, caps, notes) {
+        return Wrote {
+            refusal: 18,
+            count: 0,
+        };
+    }
+    if !has_room(t, out.len()) {
         return Wrote {
             refusal: 20,
             count: 0,
         };
     }
+    let n = put_table(out, t, caps, notes);
     Wrote {
-        refusal: 18,
-        count: 0,
+        refusal: 0,
+        count: n as u64,
     }
 }
 
@@ -151,36 +136,19 @@ pub fn store(t: Summary, caps: &[u64], notes: &[u64], out: &mut [u8]) -> Wrote
 fn is_opening(file: &[u8]) -> bool
     ensures { result ≡ opens file.now }
 {
-    if file.len() < OPENING {
-        return false;
-    }
-    if file[0] != b'S' {
-        return false;
-    }
-    if file[1] != b'G' {
-        return false;
-    }
-    if file[2] != b'T' {
-        return false;
-    }
-    if file[3] != 1 {
-        return false;
-    }
-    file[4] == 0
+    file.starts_with(b"SGT\x01\x00")
 }
 
 // The numbers of bytes, written to the front of out if they fit.
 fn get_numbers(bytes: &[u8], out: &mut [u64])
     ensures { out.new ≡ put_front (numbers_of bytes.now) out.old }
 {
+    let (numbers, _) = bytes.as_chunks::<WIDTH>();
     let n = bytes.len() / WIDTH;
-    if n > out.len() {
-        return;
-    }
-    let mut i: usize = 0;
-    while i < n {
-        out[i] = number_at(bytes, i);
-        i += 1;
+    if n <= out.len() {
+        for i in 0..n {
+            out[i] = u64::from_le_bytes(numbers[i]);
+        }
     }
 }
 
@@ -210,15 +178,9 @@ fn summary_of(bytes: &[u8]) -> Summary
 fn rows_are(t: Summary, n: usize) -> bool
     ensures { result ≡ eqb n (capture_bytes t.captures + annotation_bytes t.annotations) }
 {
-    if n % ROW != 0 {
-        return false;
-    }
     let rows = n / ROW;
     let c = t.captures as usize;
-    if c > rows {
-        return false;
-    }
-    t.annotations as usize == rows - c
+    n % ROW == 0 && c <= rows && t.annotations as usize == rows - c
 }
 
 // A table whose rows stand in bytes, as many as it counts: judged, and its rows written to the front of lent memory; or the refusal.
@@ -228,18 +190,18 @@ fn load_rows(t: Summary, caps: &[u8], notes: &[u8], capto: &mut [u64], noteto: &
     ensures captures { capto.new ≡ cond (eqb result 0) (written (numbers_of caps.now) capto.old) capto.old }
     ensures annotations { noteto.new ≡ cond (eqb result 0) (written (numbers_of notes.now) noteto.old) noteto.old }
 {
-    if table::bytes::well_formed(t, caps, notes) {
-        if t.captures as usize > capto.len() / Capture::WIDTH {
-            return 20;
-        }
-        if t.annotations as usize > noteto.len() / Annotation::WIDTH {
-            return 20;
-        }
-        get_numbers(caps, capto);
-        get_numbers(notes, noteto);
-        return 0;
+    if !table::bytes::well_formed(t, caps, notes) {
+        return 18;
     }
-    18
+    if t.captures as usize > capto.len() / Capture::WIDTH {
+        return 20;
+    }
+    if t.annotations as usize > noteto.len() / Annotation::WIDTH {
+        return 20;
+    }
+    get_numbers(caps, capto);
+    get_numbers(notes, noteto);
+    0
 }
 
 // The rows of a file with the summary t, whose counts give its length: their bytes judged and written.
@@ -260,20 +222,20 @@ pub fn load(file: &[u8], capto: &mut [u64], noteto: &mut [u64]) -> Summary
     ensures captures { capto.new ≡ captures_loaded file.now capto.old noteto.old }
     ensures annotations { noteto.new ≡ annotations_loaded file.now capto.old noteto.old }
 {
-    if is_opening(file) {
-        if file.len() < HEAD {
-            return no_table(22);
-        }
-        let t = summary_of(&file[OPENING..HEAD]);
-        if rows_are(t, file.len() - HEAD) {
-            let r = load_from(file, t, capto, noteto);
-            if r != 0 {
-                return no_table(r);
-            }
-            // read again: so it is not kept while the rows are read
-            return summary_of(&file[OPENING..HEAD]);
-        }
+    if !is_opening(file) {
+        return no_table(21);
+    }
+    if file.len() < HEAD {
         return no_table(22);
     }
-    no_table(21)
+    let t = summary_of(&file[OPENING..HEAD]);
+    if !rows_are(t, file.len() - HEAD) {
+        return no_table(22);
+    }
+    let r = load_from(file, t, capto, noteto);
+    if r != 0 {
+        return no_table(r);
+    }
+    // read again: so it is not kept while the rows are read
+    summary_of(&file[OPENING..HEAD])
 }

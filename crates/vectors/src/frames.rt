@@ -1,90 +1,43 @@
-ghost use Rattle.std.specs.Prelude.{◌≡◌};
-
+// A case's frame: its letter, a space, its payload's length and a line feed.
 use standard_streams::read_full;
 use std::io::Stdin;
 
-// The next byte of standard input.
+// What stands there is no frame, or the input ends in it.
 #[derive(Clone, Copy)]
-pub enum Input {
-    Byte(u8),
-    End,
-}
+pub struct Broken;
 
-// A length, or that no line with one stands there.
-#[derive(Clone, Copy)]
-pub enum Length {
-    Of(usize),
-    Broken,
-}
-
-// A case's letter and its payload's length; or the input ends before a letter.
-#[derive(Clone, Copy)]
-pub enum Header {
-    Case(u8, usize),
-    End,
-    Broken,
-}
-
-fn read_byte(mut from: Stdin) -> Input {
-    let mut b = [0u8; 1];
-    let n = read_full(&mut from, &mut b);
-    if n == 0 {
-        return Input::End;
-    }
-    Input::Byte(b[0])
-}
-
-fn wide(b: u8) -> usize
-    ensures { result ≡ b }
-{
-    b as usize
+// The next byte of standard input, if there is one.
+fn read_byte(mut from: Stdin) -> Option<u8> {
+    let mut byte = [0u8; 1];
+    (read_full(&mut from, &mut byte) == 1).then_some(byte[0])
 }
 
 // One to seven digits and a line feed.
-fn read_length(from: Stdin) -> Length {
-    let mut n = 0usize;
-    let mut turns = 0usize;
-    while turns < 8 {
-        let r = read_byte(from);
-        let Input::Byte(b) = r else {
-            return Length::Broken;
-        };
-        if b == b'\n' {
-            if turns == 0 {
-                return Length::Broken;
-            }
-            return Length::Of(n);
+fn read_length(from: Stdin) -> Option<usize> {
+    let mut n = 0;
+    for digits in 0..8 {
+        match read_byte(from)? {
+            b'\n' => return (digits > 0).then_some(n),
+            b @ b'0'..=b'9' if n < 1000000 => n = n * 10 + usize::from(b - b'0'),
+            _ => return None,
         }
-        if b < b'0' {
-            return Length::Broken;
-        }
-        if b'9' < b {
-            return Length::Broken;
-        }
-        if 1000000 <= n {
-            return Length::Broken;
-        }
-        n = n * 10 + wide(b - b'0');
-        turns += 1;
     }
-    Length::Broken
+    None
 }
 
-pub(crate) fn read_header(from: Stdin) -> Header {
-    let r = read_byte(from);
-    let Input::Byte(letter) = r else {
-        return Header::End;
-    };
-    let q = read_byte(from);
-    let Input::Byte(blank) = q else {
-        return Header::Broken;
-    };
-    if blank != b' ' {
-        return Header::Broken;
+// A space and a length.
+fn read_size(from: Stdin) -> Option<usize> {
+    if read_byte(from)? != b' ' {
+        return None;
     }
-    let l = read_length(from);
-    let Length::Of(n) = l else {
-        return Header::Broken;
+    read_length(from)
+}
+
+// A case's letter and its payload's length, or None where the input ends before a letter.
+pub(crate) fn read_header(from: Stdin) -> Result<Option<(u8, usize)>, Broken> {
+    let Some(letter) = read_byte(from) else {
+        return Ok(None);
     };
-    Header::Case(letter, n)
+    let n = read_size(from).ok_or(Broken)?;
+    Ok(Some((letter, n)))
 }

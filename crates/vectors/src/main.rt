@@ -25,9 +25,8 @@ use crate::field_cases::{
     answer_datatype, answer_datetime, answer_extension, answer_form, answer_name, answer_types,
     answer_uint, answer_version,
 };
-use crate::frames::{Header, read_header};
+use crate::frames::{Broken, read_header};
 use crate::listing_cases::answer_first_line;
-use crate::parts::front_bytes;
 use crate::print::stop;
 use crate::reading_cases::run_reading;
 use crate::storing_cases::run_loading;
@@ -45,20 +44,21 @@ fn main(rt: HostRuntime) {
     run_cases(rt, &mut room);
 }
 
+// Runs cases until one says to stop, or for longer than any input lasts.
 fn run_cases(rt: HostRuntime, room: &mut [u8]) {
-    let mut turns = u64::MAX;
-    while turns > 0 && run_case(rt, room) {
-        turns -= 1;
+    for _ in 0..u64::MAX {
+        if !run_case(rt, room) {
+            return;
+        }
     }
 }
 
 // Runs one case, and answers whether to go on.
 fn run_case(rt: HostRuntime, room: &mut [u8]) -> bool {
-    let h = read_header(rt.stdin());
-    match h {
-        Header::Case(letter, n) => run_in(rt, letter, room, n),
-        Header::End => false,
-        Header::Broken => stop(rt.stdout()),
+    match read_header(rt.stdin()) {
+        Ok(Some((letter, n))) => run_in(rt, letter, room, n),
+        Ok(None) => false,
+        Err(Broken) => stop(rt.stdout()),
     }
 }
 
@@ -67,7 +67,7 @@ fn run_in(rt: HostRuntime, letter: u8, room: &mut [u8], n: usize) -> bool {
     if room.len() < n {
         return stop(rt.stdout());
     }
-    run_on(rt, letter, front_bytes(room, n as u64))
+    run_on(rt, letter, &mut room[..n])
 }
 
 // Fills the payload from the input, where that has as many bytes.
@@ -84,12 +84,7 @@ fn answer(to: Stdout, letter: u8, payload: &[u8]) -> bool {
         b'j' => json_cases::answer(to, payload),
         b's' => body_cases::answer(to, payload),
         b'e' => compare_parts(to, payload),
-        b't' => run_table(to, letter, payload),
-        b'z' => run_table(to, letter, payload),
-        b'l' => run_table(to, letter, payload),
-        b'p' => run_table(to, letter, payload),
-        b'w' => run_table(to, letter, payload),
-        b'b' => run_table(to, letter, payload),
+        b't' | b'z' | b'l' | b'p' | b'w' | b'b' => run_table(to, letter, payload),
         b'q' => answer_first_line(to, payload),
         b'r' => run_reading(to, payload),
         b'f' => run_loading(to, payload),
@@ -108,9 +103,7 @@ fn answer_field(to: Stdout, letter: u8, payload: &[u8]) -> bool {
         b'k' => answer_types(to, payload),
         b'x' => answer_extension(to, payload),
         b'n' => answer_form(to, payload),
-        b'g' => answer_name(to, letter, payload),
-        b'c' => answer_name(to, letter, payload),
-        b'a' => answer_name(to, letter, payload),
+        b'g' | b'c' | b'a' => answer_name(to, letter, payload),
         _ => stop(to),
     }
 }

@@ -1,9 +1,9 @@
 // `t`: an operation on a table. The answer is one line of its numbers and the checksum of the lent output.
-use crate::memory::{fill, fill_bytes, fill_dataset};
+use crate::memory::{fill, fill_dataset};
 use crate::numbers::at;
-use crate::parts::{front, front_bytes, past};
+use crate::parts::{front, past};
 use crate::print;
-use crate::print::{flag, one, stop, three, two, word};
+use crate::print::{end, line, stop, word};
 use crate::sum::{EMPTY, add_numbers, sum_bytes};
 use crate::table_cases::summary;
 use std::io::Stdout;
@@ -32,7 +32,11 @@ pub(crate) fn run_operation(
     notes: &[u64],
     sizes: &[u64],
 ) -> bool {
-    let c = read_case(head);
+    let c = Case {
+        t: summary(past(head, 1)),
+        a: at(head, 13),
+        b: at(head, 14),
+    };
     let n = at(sizes, 0);
     let m = at(sizes, 1);
     match at(head, 0) {
@@ -45,23 +49,14 @@ pub(crate) fn run_operation(
     }
 }
 
-fn read_case(head: &[u64]) -> Case {
-    let t = summary(past(head, 1));
-    Case {
-        t: t,
-        a: at(head, 13),
-        b: at(head, 14),
-    }
-}
-
 fn run_well_formed(to: Stdout, c: Case, caps: &[u64], notes: &[u64]) -> bool {
     let good = well_formed(c.t, caps, notes);
-    two(to, b"t", flag(good), EMPTY)
+    line(to, b"t", &[u64::from(good), EMPTY])
 }
 
 fn run_locate(to: Stdout, c: Case, caps: &[u64], notes: &[u64]) -> bool {
     let r = locate(c.t, caps, notes, c.a);
-    three(to, b"t", r.refusal, r.byte, EMPTY)
+    line(to, b"t", &[r.refusal, r.byte, EMPTY])
 }
 
 fn run_pieces(to: Stdout, c: Case, caps: &[u64], notes: &[u64], size: u64) -> bool {
@@ -72,7 +67,7 @@ fn run_pieces(to: Stdout, c: Case, caps: &[u64], notes: &[u64], size: u64) -> bo
 fn pieces_to(to: Stdout, c: Case, caps: &[u64], notes: &[u64], out: &mut [u64]) -> bool {
     fill(out);
     let r = pieces(c.t, caps, notes, c.a, c.b, out);
-    three(to, b"t", r.refusal, r.count, add_numbers(EMPTY, out))
+    line(to, b"t", &[r.refusal, r.count, add_numbers(EMPTY, out)])
 }
 
 fn run_cut(to: Stdout, c: Case, caps: &[u64], notes: &[u64], capsize: u64, notesize: u64) -> bool {
@@ -99,14 +94,9 @@ fn cut_to(
     fill(capto);
     fill(noteto);
     let r = cut(c.t, caps, notes, c.a, c.b, capto, noteto);
-    print_summary(to, r, add_numbers(add_numbers(EMPTY, capto), noteto))
-}
-
-// An answer of a summary and the checksum of lent output.
-fn print_summary(to: Stdout, t: Summary, h: u64) -> bool {
     word(to, b"t");
-    print::summary(to, t);
-    one(to, b"", h)
+    print::summary(to, r);
+    end(to, &[add_numbers(add_numbers(EMPTY, capto), noteto)])
 }
 
 fn run_copy(to: Stdout, c: Case, caps: &[u64], notes: &[u64], length: u64, size: u64) -> bool {
@@ -117,8 +107,8 @@ fn run_copy(to: Stdout, c: Case, caps: &[u64], notes: &[u64], length: u64, size:
         c,
         caps,
         notes,
-        front_bytes(&mut dataset, length),
-        front_bytes(&mut room, size),
+        front(&mut dataset, length),
+        front(&mut room, size),
     )
 }
 
@@ -131,7 +121,7 @@ fn copy_to(
     out: &mut [u8],
 ) -> bool {
     fill_dataset(bytes);
-    fill_bytes(out);
+    fill(out);
     let r = copy(c.t, caps, notes, bytes, c.a, c.b, out);
-    three(to, b"t", r.refusal, r.count, sum_bytes(out))
+    line(to, b"t", &[r.refusal, r.count, sum_bytes(out)])
 }

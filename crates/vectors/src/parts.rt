@@ -5,44 +5,23 @@ ghost use Rattle.std.specs.Prelude.{◌≤◌};
 fn lent(size: u64, room: usize) -> usize
     ensures { result ≤ room }
 {
-    if size > room as u64 {
-        return room;
-    }
-    size as usize
+    size.min(room as u64) as usize
 }
 
-// The first numbers.
-pub(crate) fn first(v: &[u64], size: u64) -> &[u64] {
+// The first of a slice.
+pub(crate) fn first<T>(v: &[T], size: u64) -> &[T] {
     let n = lent(size, v.len());
     &v[..n]
 }
 
-// The numbers past the first.
-pub(crate) fn past(v: &[u64], size: u64) -> &[u64] {
+// What is past the first.
+pub(crate) fn past<T>(v: &[T], size: u64) -> &[T] {
     let n = lent(size, v.len());
     &v[n..]
 }
 
-// The first numbers, to be written.
-pub(crate) fn front(v: &mut [u64], size: u64) -> &mut [u64] {
-    let n = lent(size, v.len());
-    &mut v[..n]
-}
-
-// The first bytes.
-pub(crate) fn first_bytes(v: &[u8], size: u64) -> &[u8] {
-    let n = lent(size, v.len());
-    &v[..n]
-}
-
-// The bytes past the first.
-pub(crate) fn past_bytes(v: &[u8], size: u64) -> &[u8] {
-    let n = lent(size, v.len());
-    &v[n..]
-}
-
-// The first bytes, to be written.
-pub(crate) fn front_bytes(v: &mut [u8], size: u64) -> &mut [u8] {
+// The first, to be written.
+pub(crate) fn front<T>(v: &mut [T], size: u64) -> &mut [T] {
     let n = lent(size, v.len());
     &mut v[..n]
 }
@@ -50,5 +29,5 @@ pub(crate) fn front_bytes(v: &mut [u8], size: u64) -> &mut [u8] {
 // The first rows of four numbers each.
 pub(crate) fn first_rows(v: &[u64], count: u64) -> &[u64] {
     let n = lent(count, v.len() / 4);
-    first(v, (4 * n) as u64)
+    &v[..4 * n]
 }

@@ -1,10 +1,11 @@
 // `r`: reading. The numbers are the dataset's length and how many are lent for captures and for annotations; the metadata
 // follows.
 use crate::memory::fill;
-use crate::numbers::{at, past_numbers, read_numbers};
+use crate::numbers::{past_numbers, read_numbers};
 use crate::parts::front;
-use crate::print::{summary, two, word};
+use crate::print::{end, line, summary, word};
 use crate::sum::{EMPTY, add_numbers};
+use crate::table_cases::summary_numbers;
 use reader::{judge, read};
 use std::io::Stdout;
 use table::Summary;
@@ -20,21 +21,23 @@ pub(crate) fn run_reading(to: Stdout, payload: &[u8]) -> bool {
     read_to(
         to,
         past_numbers(payload, 3),
-        at(&head, 0),
-        front(&mut caproom, at(&head, 1)),
-        front(&mut noteroom, at(&head, 2)),
+        head[0],
+        front(&mut caproom, head[1]),
+        front(&mut noteroom, head[2]),
     )
 }
 
+// The summary and the checksums of the lent memory.
 fn read_to(to: Stdout, s: &[u8], d: u64, caps: &mut [u64], notes: &mut [u64]) -> bool {
     fill(caps);
     fill(notes);
     let t = read(s, d, caps, notes);
-    if is_judged(s, d, t) {
-        return print_read(to, t, add_numbers(EMPTY, caps), add_numbers(EMPTY, notes));
+    if !is_judged(s, d, t) {
+        return line(to, b"r and judge differ", &[d, t.refusal]);
     }
-    word(to, b"r and judge differ");
-    two(to, b"", d, t.refusal)
+    word(to, b"r");
+    summary(to, t);
+    end(to, &[add_numbers(EMPTY, caps), add_numbers(EMPTY, notes)])
 }
 
 // `judge` gives the same summary, or acceptance where `read` lacks room.
@@ -43,28 +46,5 @@ fn is_judged(s: &[u8], d: u64, t: Summary) -> bool {
     if t.refusal == 20 {
         return j.refusal == 0;
     }
-    summary_sum(j) == summary_sum(t)
-}
-
-// The checksum of a summary's numbers.
-fn summary_sum(t: Summary) -> u64 {
-    let first = [
-        t.refusal, t.datatype, t.channels, t.width, t.offset, t.trailing,
-    ];
-    let rest = [
-        t.samples,
-        t.size,
-        t.captures,
-        t.annotations,
-        t.rate.at,
-        t.rate.len,
-    ];
-    add_numbers(add_numbers(EMPTY, &first), &rest)
-}
-
-// The summary and the checksums of the lent memory.
-fn print_read(to: Stdout, t: Summary, g: u64, h: u64) -> bool {
-    word(to, b"r");
-    summary(to, t);
-    two(to, b"", g, h)
+    summary_numbers(j) == summary_numbers(t)
 }

@@ -1,9 +1,9 @@
 // `z`: cuts and copies one after the other. The current rows and dataset are at the front of rooms that hold any of them.
-use crate::memory::{fill_dataset, put, store, store_bytes};
+use crate::memory::{fill_dataset, store};
 use crate::numbers::at;
-use crate::parts::{first, first_bytes, first_rows, front, front_bytes, past};
+use crate::parts::{first, first_rows, front, past};
 use crate::print;
-use crate::print::{numbers, three, word};
+use crate::print::{end, numbers, word};
 use crate::sum::{EMPTY, add_numbers, sum_bytes};
 use crate::table_cases::summary;
 use std::io::Stdout;
@@ -77,28 +77,24 @@ fn take_steps(
     refusals: &mut [u64],
 ) -> Summary {
     let mut e = t;
-    let mut p = 0usize;
-    let mut i = 0usize;
-    let mut left = refusals.len();
-    while left > 0 {
-        let r = take_step(e, step_at(v, p), caps, notes, bytes);
-        put(refusals, i, r.refusal);
+    let mut rest = v;
+    for refusal in refusals.iter_mut() {
+        let r = take_step(e, step_of(rest), caps, notes, bytes);
+        *refusal = r.refusal;
         e = r.t;
-        p = std::num::wrapping_add_usize(p, 5);
-        i = std::num::wrapping_add_usize(i, 1);
-        left -= 1;
+        rest = past(rest, 5);
     }
     e
 }
 
-// The step whose numbers begin at a place.
-fn step_at(v: &[u64], p: usize) -> Step {
+// The step of five numbers.
+fn step_of(v: &[u64]) -> Step {
     Step {
-        a: at(v, p),
-        b: at(v, std::num::wrapping_add_usize(p, 1)),
-        capsize: at(v, std::num::wrapping_add_usize(p, 2)),
-        notesize: at(v, std::num::wrapping_add_usize(p, 3)),
-        size: at(v, std::num::wrapping_add_usize(p, 4)),
+        a: at(v, 0),
+        b: at(v, 1),
+        capsize: at(v, 2),
+        notesize: at(v, 3),
+        size: at(v, 4),
     }
 }
 
@@ -121,28 +117,19 @@ fn take_step(
         front(&mut capto, s.capsize),
         front(&mut noteto, s.notesize),
     );
-    let n = copy_after(r.refusal, t, s, caps, notes, bytes);
-    if n == 0 {
-        store(&capto, caps);
-        store(&noteto, notes);
-        return Stepped { t: r, refusal: 0 };
+    if r.refusal != 0 {
+        return Stepped {
+            t,
+            refusal: r.refusal,
+        };
     }
-    Stepped { t: t, refusal: n }
-}
-
-// The refusal of a cut, or of the copy after it.
-fn copy_after(
-    refusal: u64,
-    t: Summary,
-    s: Step,
-    caps: &[u64],
-    notes: &[u64],
-    bytes: &mut [u8],
-) -> u64 {
+    let refusal = copy_over(t, s, caps, notes, bytes);
     if refusal != 0 {
-        return refusal;
+        return Stepped { t, refusal };
     }
-    copy_over(t, s, caps, notes, bytes)
+    store(&capto, caps);
+    store(&noteto, notes);
+    Stepped { t: r, refusal }
 }
 
 // An accepted copy is stored over the dataset.
@@ -152,13 +139,13 @@ fn copy_over(t: Summary, s: Step, caps: &[u64], notes: &[u64], bytes: &mut [u8])
         t,
         caps,
         notes,
-        first_bytes(bytes, t.size),
+        first(bytes, t.size),
         s.a,
         s.b,
-        front_bytes(&mut out, s.size),
+        front(&mut out, s.size),
     );
     if w.refusal == 0 {
-        store_bytes(&out, bytes);
+        store(&out, bytes);
     }
     w.refusal
 }
@@ -174,13 +161,9 @@ fn print_end(
 ) -> bool {
     let g = add_numbers(EMPTY, first_rows(caps, t.captures));
     let h = add_numbers(EMPTY, first_rows(notes, t.annotations));
-    let k = sum_bytes(first_bytes(bytes, t.size));
-    print_steps(to, refusals, t);
-    three(to, b"", g, h, k)
-}
-
-fn print_steps(to: Stdout, refusals: &[u64], t: Summary) {
+    let k = sum_bytes(first(bytes, t.size));
     word(to, b"z");
     numbers(to, refusals);
     print::summary(to, t);
+    end(to, &[g, h, k])
 }

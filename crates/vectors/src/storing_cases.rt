@@ -1,10 +1,10 @@
 // Answers about tables kept in files.
 use crate::listing_cases::BYTES;
-use crate::memory::{fill, fill_bytes};
+use crate::memory::fill;
 use crate::numbers::{at, past_numbers, read_numbers};
-use crate::parts::{first_bytes, front, front_bytes, past};
+use crate::parts::{front, past};
 use crate::print;
-use crate::print::{three, two, word};
+use crate::print::{end, line, word};
 use crate::reading_cases::NUMBERS;
 use crate::sum::{EMPTY, add_numbers, sum_bytes};
 use crate::table_cases::summary;
@@ -19,14 +19,14 @@ const FILE: usize = 101 + 2 * 8 * NUMBERS;
 pub(crate) fn run_storing(to: Stdout, head: &[u64], caps: &[u64], notes: &[u64]) -> bool {
     let t = summary(past(head, 1));
     let mut room = [0u8; BYTES];
-    store_to(to, t, caps, notes, front_bytes(&mut room, at(head, 0)))
+    store_to(to, t, caps, notes, front(&mut room, at(head, 0)))
 }
 
 // `b`: the refusal, how many bytes were written, and the checksum of the lent output.
 fn store_to(to: Stdout, t: Summary, caps: &[u64], notes: &[u64], out: &mut [u8]) -> bool {
-    fill_bytes(out);
+    fill(out);
     let r = store(t, caps, notes, out);
-    three(to, b"b", r.refusal, r.count, sum_bytes(out))
+    line(to, b"b", &[r.refusal, r.count, sum_bytes(out)])
 }
 
 // The numbers are how many are lent for captures and for annotations; the file follows.
@@ -38,8 +38,8 @@ pub(crate) fn run_loading(to: Stdout, payload: &[u8]) -> bool {
     load_to(
         to,
         past_numbers(payload, 2),
-        front(&mut caproom, at(&head, 0)),
-        front(&mut noteroom, at(&head, 1)),
+        front(&mut caproom, head[0]),
+        front(&mut noteroom, head[1]),
     )
 }
 
@@ -48,11 +48,12 @@ fn load_to(to: Stdout, file: &[u8], caps: &mut [u64], notes: &mut [u64]) -> bool
     fill(caps);
     fill(notes);
     let t = load(file, caps, notes);
-    if is_stored(t, caps, notes, file) {
-        return print_loaded(to, t, add_numbers(EMPTY, caps), add_numbers(EMPTY, notes));
+    if !is_stored(t, caps, notes, file) {
+        return line(to, b"f and b differ", &[file.len() as u64, t.refusal]);
     }
-    word(to, b"f and b differ");
-    two(to, b"", file.len() as u64, t.refusal)
+    word(to, b"f");
+    print::summary(to, t);
+    end(to, &[add_numbers(EMPTY, caps), add_numbers(EMPTY, notes)])
 }
 
 // A table that was loaded is stored as the file's bytes.
@@ -60,17 +61,12 @@ fn is_stored(t: Summary, caps: &[u64], notes: &[u64], file: &[u8]) -> bool {
     if t.refusal != 0 {
         return true;
     }
-    let n = file.len() as u64;
     let mut room = [0u8; FILE];
-    let r = store(t, caps, notes, front_bytes(&mut room, n));
-    if r.count == n {
-        return sum_bytes(first_bytes(&room, n)) == sum_bytes(file);
-    }
-    false
+    is_same_file(t, caps, notes, file, front(&mut room, file.len() as u64))
 }
 
-fn print_loaded(to: Stdout, t: Summary, g: u64, h: u64) -> bool {
-    word(to, b"f");
-    print::summary(to, t);
-    two(to, b"", g, h)
+// It is stored in a room of the file's length as the file.
+fn is_same_file(t: Summary, caps: &[u64], notes: &[u64], file: &[u8], room: &mut [u8]) -> bool {
+    let r = store(t, caps, notes, room);
+    r.count == file.len() as u64 && *room == *file
 }

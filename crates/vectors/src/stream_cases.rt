@@ -1,8 +1,8 @@
 // Answers about JSON text judged as it arrives.
 use crate::memory::store_again;
 use crate::numbers::{at, past_numbers, read_numbers};
-use crate::parts::{first_bytes, front_bytes, past, past_bytes};
-use crate::print::{flag, number, two, word};
+use crate::parts::{first, front, past};
+use crate::print::line;
 use crate::sum::{EMPTY, Sum, mix, print_sum};
 use json_automaton::State;
 use json_stream::{Fed, feed, finish, fresh};
@@ -23,14 +23,11 @@ pub struct Run {
 pub(crate) fn run_chunks(to: Stdout, payload: &[u8]) -> bool {
     let mut head = [0u64; 6];
     read_numbers(payload, &mut head);
-    if at(&head, 0) == 0 {
-        return print_run(
-            to,
-            feed_chunks(fresh(), past_numbers(payload, 2), at(&head, 1)),
-        );
+    if head[0] == 0 {
+        return print_run(to, feed_chunks(fresh(), past_numbers(payload, 2), head[1]));
     }
-    let st = state(past(&head, 1));
-    print_run(to, feed_chunks(st, past_numbers(payload, 6), at(&head, 5)))
+    let st = state(&head[1..]);
+    print_run(to, feed_chunks(st, past_numbers(payload, 6), head[5]))
 }
 
 // The state of four numbers.
@@ -51,14 +48,11 @@ fn feed_chunks(st: State, s: &[u8], n: u64) -> Run {
         state: st,
     };
     let mut h = add_answer(EMPTY, e, finish(st));
-    let mut p = 0u64;
-    let mut left = n;
-    while left > 0 {
-        let rest = past_bytes(s, p);
+    let mut rest = s;
+    for _ in 0..n {
         e = feed_chunk(e.state, rest);
         h = add_answer(h, e, finish(e.state));
-        p = std::num::wrapping_add_u64(p, chunk_size(rest));
-        left -= 1;
+        rest = past(rest, chunk_size(rest));
     }
     Run { last: e, hash: h }
 }
@@ -67,12 +61,12 @@ fn feed_chunks(st: State, s: &[u8], n: u64) -> Run {
 fn feed_chunk(st: State, s: &[u8]) -> Fed {
     let mut head = [0u64; 2];
     read_numbers(s, &mut head);
-    let part = first_bytes(past_numbers(s, 2), at(&head, 1));
-    if at(&head, 0) == at(&head, 1) {
+    let part = first(past_numbers(s, 2), head[1]);
+    if head[0] == head[1] {
         return feed(st, part);
     }
     let mut room = [0u8; BYTES];
-    feed_again(st, part, front_bytes(&mut room, at(&head, 0)))
+    feed_again(st, part, front(&mut room, head[0]))
 }
 
 fn feed_again(st: State, part: &[u8], chunk: &mut [u8]) -> Fed {
@@ -84,7 +78,7 @@ fn feed_again(st: State, part: &[u8], chunk: &mut [u8]) -> Fed {
 fn chunk_size(s: &[u8]) -> u64 {
     let mut head = [0u64; 2];
     read_numbers(s, &mut head);
-    std::num::wrapping_add_u64(16, at(&head, 1))
+    head[1].saturating_add(16)
 }
 
 // The checksum h with an answer's numbers more, and what finishing gives.
@@ -99,36 +93,29 @@ fn add_answer(h: u64, e: Fed, end: u64) -> u64 {
         st.count as u64,
         end,
     ];
-    add_halves(h, &v)
+    v.iter().fold(h, |g, x| mix_halves(g, *x))
 }
 
-// The lower and the upper half of each number.
-fn add_halves(h: u64, v: &[u64]) -> u64 {
-    let mut g = h;
-    let mut i = 0usize;
-    while i < v.len() {
-        let x = v[i];
-        g = mix(mix(g, x), x / 4294967296);
-        i += 1;
-    }
-    g
+// The checksum h with the lower and the upper half of a number.
+fn mix_halves(h: u64, x: u64) -> u64 {
+    mix(mix(h, x), x >> 32)
 }
 
 // `h`: the checksum, the last answer's numbers, and what finishing gives.
 fn print_run(to: Stdout, r: Run) -> bool {
     let e = r.last;
-    word(to, b"h");
-    number(to, r.hash);
-    number(to, e.refusal);
-    number(to, e.lost);
-    print_state(to, e.state)
-}
-
-fn print_state(to: Stdout, st: State) -> bool {
-    number(to, st.place);
-    number(to, st.token);
-    number(to, st.stack);
-    two(to, b"", st.count as u64, finish(st))
+    let st = e.state;
+    let v = [
+        r.hash,
+        e.refusal,
+        e.lost,
+        st.place,
+        st.token,
+        st.stack,
+        st.count as u64,
+        finish(st),
+    ];
+    line(to, b"h", &v)
 }
 
 // The numbers are those of the first state, what each state has more than the one before, and how many there are.
@@ -136,44 +123,32 @@ fn print_state(to: Stdout, st: State) -> bool {
 pub(crate) fn run_states(to: Stdout, payload: &[u8]) -> bool {
     let mut v = [0u64; 9];
     read_numbers(payload, &mut v);
-    print_sum(
-        to,
-        b"i",
-        feed_states(state(&v), state(past(&v, 4)), at(&v, 8)),
-    )
+    print_sum(to, b"i", feed_states(state(&v), state(&v[4..]), v[8]))
 }
 
 // State k is fed the byte k modulo 256.
 fn feed_states(first: State, step: State, n: u64) -> Sum {
     let mut st = first;
     let mut b = 0u8;
-    let mut good = 0u64;
-    let mut h = EMPTY;
-    let mut left = n;
-    while left > 0 {
-        let e = feed_byte(st, b);
-        h = add_answer(h, e, finish(st));
-        good = std::num::wrapping_add_u64(good, flag(e.refusal == 0));
+    let mut m = Sum {
+        count: 0,
+        hash: EMPTY,
+    };
+    for _ in 0..n {
+        let e = feed(st, &[b]);
+        m.hash = add_answer(m.hash, e, finish(st));
+        m.count = m.count.wrapping_add(u64::from(e.refusal == 0));
         st = next_state(st, step);
-        b = std::num::wrapping_add_u8(b, 1);
-        left -= 1;
+        b = b.wrapping_add(1);
     }
-    Sum {
-        count: good,
-        hash: h,
-    }
-}
-
-fn feed_byte(st: State, b: u8) -> Fed {
-    let chunk = [b];
-    feed(st, &chunk)
+    m
 }
 
 fn next_state(st: State, step: State) -> State {
     State {
-        place: std::num::wrapping_add_u64(st.place, step.place),
-        token: std::num::wrapping_add_u64(st.token, step.token),
-        stack: std::num::wrapping_add_u64(st.stack, step.stack),
-        count: std::num::wrapping_add_usize(st.count, step.count),
+        place: st.place.wrapping_add(step.place),
+        token: st.token.wrapping_add(step.token),
+        stack: st.stack.wrapping_add(step.stack),
+        count: st.count.wrapping_add(step.count),
     }
 }

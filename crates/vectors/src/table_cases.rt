@@ -21,34 +21,37 @@ pub(crate) fn run_table(to: Stdout, letter: u8, payload: &[u8]) -> bool {
 
 // How many numbers the head has: the operation, the summary's twelve, a and b; or the summary's alone; or one before them.
 fn head_of(letter: u8) -> u64 {
-    if letter == b't' {
-        return 15;
+    match letter {
+        b't' => 15,
+        b'z' => 12,
+        _ => 13,
     }
-    if letter == b'z' {
-        return 12;
-    }
-    13
 }
 
 fn run_numbers(to: Stdout, letter: u8, payload: &[u8], v: &[u64]) -> bool {
     let h = head_of(letter);
     let head = first(v, h);
     let w = past(v, h);
-    let caps = counted(w);
     let x = past_counted(w);
-    run_rows(to, letter, payload, head, caps, counted(x), past_counted(x))
+    run_rows(
+        to,
+        letter,
+        payload,
+        head,
+        counted(w),
+        counted(x),
+        past_counted(x),
+    )
 }
 
 // The numbers after their count.
 fn counted(v: &[u64]) -> &[u64] {
-    let n = at(v, 0);
-    first(past(v, 1), n)
+    first(past(v, 1), at(v, 0))
 }
 
 // What follows them.
 fn past_counted(v: &[u64]) -> &[u64] {
-    let n = at(v, 0);
-    past(past(v, 1), n)
+    past(past(v, 1), at(v, 0))
 }
 
 fn run_rows(
@@ -60,19 +63,13 @@ fn run_rows(
     notes: &[u64],
     asked: &[u64],
 ) -> bool {
-    if letter == b't' {
-        return run_operation(to, head, caps, notes, asked);
+    match letter {
+        b't' => run_operation(to, head, caps, notes, asked),
+        b'z' => run_steps(to, head, caps, notes, asked),
+        b'w' => run_writing(to, payload, head, caps, notes),
+        b'b' => run_storing(to, head, caps, notes),
+        _ => run_listing(to, letter, payload, head, caps, notes),
     }
-    if letter == b'z' {
-        return run_steps(to, head, caps, notes, asked);
-    }
-    if letter == b'w' {
-        return run_writing(to, payload, head, caps, notes);
-    }
-    if letter == b'b' {
-        return run_storing(to, head, caps, notes);
-    }
-    run_listing(to, letter, payload, head, caps, notes)
 }
 
 // The summary of twelve numbers.
@@ -93,4 +90,22 @@ pub(crate) fn summary(v: &[u64]) -> Summary {
             len: at(v, 11),
         },
     }
+}
+
+// The twelve numbers of a summary.
+pub(crate) fn summary_numbers(t: Summary) -> [u64; 12] {
+    [
+        t.refusal,
+        t.datatype,
+        t.channels,
+        t.width,
+        t.offset,
+        t.trailing,
+        t.samples,
+        t.size,
+        t.captures,
+        t.annotations,
+        t.rate.at,
+        t.rate.len,
+    ]
 }

@@ -49,10 +49,6 @@ pub raw_parts : (before s : List ℕ) (p : Place) (z : List ℕ) → absent p �
 unfolding raw_member
 raw_parts before s p z e x q = record { whole = rw (e, sym q) (append_assoc before x z ∙ ap (λ (l : List ℕ). before ++ (x ++ l)) (sym (append-nil z))) }
 
-pub raw_nothing : (before s : List ℕ) (p : Place) (z m : List ℕ) → absent p ≡ true → (0 ≡ length (raw_member before s p z)) × (m ≡ written (raw_member before s p z) m)
-unfolding raw_member
-raw_nothing before s p z m e = (rw e, rw e)
-
 -- ---- rows
 pub capture_parts : (r : Capture) → Parts (capture_text r)
     (field (ascii "{\"core:sample_start\":") r.start ∷ field (ascii ",\"core:header_bytes\":") r.header ∷ ascii "}" ∷ [])

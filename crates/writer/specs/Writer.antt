@@ -1,8 +1,7 @@
 -- Request P1: when a table is written, and what the writer answers; 18, 20.
-use Rattle.std.specs.Prelude.{ℕ, ◌+◌, Bool, false, cond, ◌&&◌, ◌||◌, List, length, leb, eqb}
+use Rattle.json_blocks.specs.declared.Cursor.{Cursor}
+use Rattle.std.specs.Prelude.{ℕ, ◌+◌, Bool, false, cond, ◌&&◌, ◌||◌, List, length, leb, eqb, None, Option, Some}
 use Rattle.limits.specs.Limits.{metadata}
-use Rattle.json_blocks.specs.declared.Read.{Read}
-use Rattle.json_blocks.specs.declared.Read.TheVariants as R
 use Rattle.json_tokens.specs.Number.{number_at}
 use Rattle.table.specs.declared.Place.{Place}
 use Rattle.table.specs.declared.Wrote.{Wrote}
@@ -17,9 +16,9 @@ use Rattle.writer.specs.Metadata.{metadata_of}
 
 -- ---- 18: "as for the listing, and if the sample rate text isn't a JSON number"
 -- a read that got to the place n
-abbrev pub got_to : ℕ → Read → Bool
-got_to n (R.To c) = eqb c.at n
-got_to n R.Bad = false
+abbrev pub got_to : ℕ → Option Cursor → Bool
+got_to n (Some c) = eqb c.at n
+got_to n None = false
 
 -- x is one JSON number and nothing else
 unfoldable pub is_number : List ℕ → Bool

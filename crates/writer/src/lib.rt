@@ -3,105 +3,77 @@
 
 mod parts;
 
-ghost use Rattle.std.specs.Prelude.{◌≡◌, ◌≤◌, min, length};
+ghost use Rattle.std.specs.Prelude.{◌≡◌, ◌≤◌, length};
 ghost use Rattle.table.specs.Memory.{written};
 ghost use Rattle.table.specs.Rows.{capture_at, annotation_at, table};
 ghost use Rattle.output.specs.Left.{left_after};
 ghost use Rattle.writer.specs.Metadata.{capture_text, annotation_text, metadata_of};
 ghost use Rattle.writer.specs.TextParts.{items};
 ghost use Rattle.writer.specs.Writer.{is_number, rate_ok, writable, writer_answer, writer_memory};
-ghost use Rattle.limits.specs.Limits.{metadata};
 
 use crate::parts::{
     annotation_left, capture_length, head_left, put_annotation, put_capture, put_head,
 };
-use json_blocks::{Cursor, Read};
+use json_blocks::Cursor;
 use limits::Limits;
-use output::{Left, put_word};
+use output::put_word;
 use table::{Place, Summary, Wrote};
 
 // A text is one JSON number.
+#[tactic(auto, unfolding(crate::specs::Writer::is_number))]
 fn is_number(x: &[u8]) -> bool
     ensures { result ≡ is_number x.now }
 {
-    let r = json_tokens::number::number(Cursor { at: 0 }, x);
-    let Read::To(c) = r else {
-        return false;
-    };
-    c.at == x.len()
+    match json_tokens::number::number(Cursor { at: 0 }, x) {
+        Some(c) => c.at == x.len(),
+        None => false,
+    }
 }
 
 // A sample rate is absent, or inside the text and one number.
+#[tactic(auto, using(std::proofs::lemmas::Bool::Decides::nat_tests), unfolding(crate::specs::Writer::rate_ok))]
 fn rate_ok(s: &[u8], p: Place) -> bool
     ensures { result ≡ rate_ok s.now p }
 {
-    if listing_labels::is_absent(p) {
-        return true;
-    }
     let n = s.len() as u64;
-    if p.at > n {
-        return false;
-    }
-    if p.len > n - p.at {
-        return false;
-    }
-    is_number(listing_labels::text_part(s, p))
+    listing_labels::is_absent(p)
+        || p.at <= n && p.len <= n - p.at && is_number(listing_labels::text_part(s, p))
 }
 
 // What the captures leave of a room.
-fn captures_left(t: Summary, caps: &[u64], room: usize) -> Left
+#[tactic(auto, using(output::proofs::RowLines::row_lengths), unfolding(output::specs::Left::left_after))]
+fn captures_left(t: Summary, caps: &[u64], room: usize) -> Option<usize>
     ensures { result ≡ left_after room (length (items capture_text (capture_at caps.now) t.captures)) }
 {
     let n = t.captures as usize;
     let mut left = room;
-    let mut k: usize = 0;
-    while k < n {
-        let x = table::capture_at(caps, k);
-        let l = capture_length(k, x);
-        if l > left {
-            return Left::Over;
-        }
-        left -= l;
-        k += 1;
+    for k in 0..n {
+        left = left.checked_sub(capture_length(k, table::capture_at(caps, k)))?;
     }
-    Left::Bytes(left)
+    Some(left)
 }
 
 // What the annotations leave of a room.
-fn annotations_left(t: Summary, notes: &[u64], s: &[u8], room: usize) -> Left
+#[tactic(auto, using(output::proofs::RowLines::row_lengths), unfolding(output::specs::Left::left_after))]
+fn annotations_left(t: Summary, notes: &[u64], s: &[u8], room: usize) -> Option<usize>
     ensures { result ≡ left_after room (length (items (annotation_text s.now) (annotation_at notes.now) t.annotations)) }
 {
     let n = t.annotations as usize;
     let mut left = room;
-    let mut k: usize = 0;
-    while k < n {
-        let x = table::annotation_at(notes, k);
-        let g = annotation_left(k, x, s, left);
-        let Left::Bytes(more) = g else {
-            return Left::Over;
-        };
-        left = more;
-        k += 1;
+    for k in 0..n {
+        left = annotation_left(k, table::annotation_at(notes, k), s, left)?;
     }
-    Left::Bytes(left)
+    Some(left)
 }
 
 // What the text leaves of a room: its words around the rows have 32 bytes.
-fn text_left(t: Summary, caps: &[u64], notes: &[u64], s: &[u8], room: usize) -> Left
+#[tactic(auto, using(std::proofs::lemmas::Bool::Decides::nat_tests, crate::proofs::LengthLaws::text_long), unfolding(output::specs::Left::left_after))]
+fn text_left(t: Summary, caps: &[u64], notes: &[u64], s: &[u8], room: usize) -> Option<usize>
     ensures { result ≡ left_after room (length (metadata_of (table t caps.now notes.now) s.now)) }
 {
-    if room < 32 {
-        return Left::Over;
-    }
-    let g = head_left(t, s, room - 32);
-    let Left::Bytes(a) = g else {
-        return Left::Over;
-    };
-    let h = captures_left(t, caps, a);
-    let Left::Bytes(b) = h else {
-        return Left::Over;
-    };
-    annotations_left(t, notes, s, b)
+    let left = head_left(t, s, room.checked_sub(32)?)?;
+    let left = captures_left(t, caps, left)?;
+    annotations_left(t, notes, s, left)
 }
 
 // The captures, written to the front of out, which has room; how many bytes they are.
@@ -111,13 +83,10 @@ fn write_captures(out: &mut [u8], t: Summary, caps: &[u64]) -> usize
     ensures memory { out.new ≡ written (items capture_text (capture_at caps.now) t.captures) out.old }
 {
     let n = t.captures as usize;
-    let mut used: usize = 0;
-    let mut k: usize = 0;
-    while k < n {
+    let mut used = 0;
+    for k in 0..n {
         let x = table::capture_at(caps, k);
-        let l = put_capture(&mut out[used..], k, x);
-        used += l;
-        k += 1;
+        used += put_capture(&mut out[used..], k, x);
     }
     used
 }
@@ -129,18 +98,16 @@ fn write_annotations(out: &mut [u8], t: Summary, notes: &[u64], s: &[u8]) -> usi
     ensures memory { out.new ≡ written (items (annotation_text s.now) (annotation_at notes.now) t.annotations) out.old }
 {
     let n = t.annotations as usize;
-    let mut used: usize = 0;
-    let mut k: usize = 0;
-    while k < n {
+    let mut used = 0;
+    for k in 0..n {
         let x = table::annotation_at(notes, k);
-        let l = put_annotation(&mut out[used..], k, x, s);
-        used += l;
-        k += 1;
+        used += put_annotation(&mut out[used..], k, x, s);
     }
     used
 }
 
 // The text, written to the front of out, which has room; how many bytes it is.
+#[tactic(auto, using(std::proofs::lemmas::Bool::Decides::nat_tests, std::proofs::lemmas::Slice::overwrites, crate::proofs::LengthLaws::text_long), unfolding(output::specs::Put::put_count, output::specs::Put::put_front))]
 fn write_text(out: &mut [u8], t: Summary, caps: &[u64], notes: &[u64], s: &[u8]) -> usize
     requires { length (metadata_of (table t caps.now notes.now) s.now) ≤ length out.old }
     ensures count { result ≡ length (metadata_of (table t caps.now notes.now) s.now) }
@@ -156,50 +123,37 @@ fn write_text(out: &mut [u8], t: Summary, caps: &[u64], notes: &[u64], s: &[u8])
 }
 
 // A table that may be written, with the metadata its texts stand in.
+#[tactic(auto, unfolding(crate::specs::Writer::writable))]
 fn is_writable(t: Summary, caps: &[u64], notes: &[u64], s: &[u8]) -> bool
     ensures { result ≡ writable (table t caps.now notes.now) s.now }
 {
-    if table::well_formed(t, caps, notes) {
-        if listing_labels::labels_ok(t, notes, s) {
-            return rate_ok(s, t.rate);
-        }
-        return false;
-    }
-    false
-}
-
-// The most bytes that a text may have in a room.
-fn most_bytes(room: usize) -> usize
-    ensures { result ≡ min room metadata }
-{
-    if room < Limits::METADATA {
-        return room;
-    }
-    Limits::METADATA
+    table::well_formed(t, caps, notes)
+        && listing_labels::labels_ok(t, notes, s)
+        && rate_ok(s, t.rate)
 }
 
 // The metadata of a table, written to the front of out.
+#[tactic(auto, using(std::proofs::lemmas::Bool::Decides::nat_tests), unfolding(output::specs::Left::left_after, crate::specs::Writer::writer_answer))]
 pub fn write(t: Summary, caps: &[u64], notes: &[u64], s: &[u8], out: &mut [u8]) -> Wrote
     ensures answer { result ≡ writer_answer (table t caps.now notes.now) s.now (length out.old) }
     ensures memory { out.new ≡ writer_memory (table t caps.now notes.now) s.now out.old }
 {
-    if is_writable(t, caps, notes, s) {
-        let room = most_bytes(out.len());
-        let g = text_left(t, caps, notes, s, room);
-        let Left::Bytes(left) = g else {
-            return Wrote {
-                refusal: 20,
-                count: 0,
-            };
-        };
-        let n = write_text(out, t, caps, notes, s);
+    if !is_writable(t, caps, notes, s) {
         return Wrote {
-            refusal: 0,
-            count: n as u64,
+            refusal: 18,
+            count: 0,
         };
     }
+    let room = out.len().min(Limits::METADATA);
+    if text_left(t, caps, notes, s, room).is_none() {
+        return Wrote {
+            refusal: 20,
+            count: 0,
+        };
+    }
+    let n = write_text(out, t, caps, notes, s);
     Wrote {
-        refusal: 18,
-        count: 0,
+        refusal: 0,
+        count: n as u64,
     }
 }

@@ -7,88 +7,69 @@ ghost use Rattle.writer.specs.TextParts.{raw_member, raw_length, comma_before, f
 
 use decimal::{decimal_length, put_field};
 use listing_labels::{is_absent, text_part};
-use output::{Left, put_datatype_name, put_word};
+use output::{put_datatype_name, put_word};
 use table::{Annotation, Capture, Place, Summary};
 
 // How many samples an annotation has.
 fn count_of(x: Annotation) -> u64
     ensures { result ≡ x.end - x.start }
 {
-    if x.end < x.start {
-        return 0;
-    }
-    x.end - x.start
+    x.end.saturating_sub(x.start)
 }
 
 // What a raw text with n bytes around it leaves of a room; an absent one takes nothing.
-fn raw_left(n: usize, s: &[u8], p: Place, room: usize) -> Left
+#[tactic(auto, using(std::proofs::lemmas::Bool::Decides::nat_tests), unfolding(crate::specs::TextParts::raw_length, output::specs::Left::left_after))]
+fn raw_left(n: usize, s: &[u8], p: Place, room: usize) -> Option<usize>
     ensures { result ≡ left_after room (raw_length n s.now p) }
 {
     if is_absent(p) {
-        return Left::Bytes(room);
+        return Some(room);
     }
-    if n > room {
-        return Left::Over;
-    }
-    let l = text_part(s, p).len();
-    if l > room - n {
-        return Left::Over;
-    }
-    Left::Bytes(room - n - l)
+    room.checked_sub(n)?.checked_sub(text_part(s, p).len())
 }
 
 // How long the comma before row k is.
+#[tactic(auto, using(crate::proofs::LengthLaws::comma_none, crate::proofs::LengthLaws::comma_one))]
 fn comma_length(k: usize) -> usize
     ensures { (result ≡ length (comma_before k)) × (result ≤ 1) }
 {
-    if k == 0 {
-        return 0;
-    }
-    1
+    if k == 0 { 0 } else { 1 }
 }
 
 // What is left of a room by what comes before the captures: its words have 112 bytes, that of a sample rate 20.
-pub(crate) fn head_left(t: Summary, s: &[u8], room: usize) -> Left
+#[tactic(auto, using(std::proofs::lemmas::Bool::Decides::nat_tests, sigmf_datatypes::proofs::Laws::name_most, crate::proofs::LengthLaws::head_long), unfolding(output::specs::Left::left_after))]
+pub(crate) fn head_left(t: Summary, s: &[u8], room: usize) -> Option<usize>
     ensures { result ≡ left_after room (length (head_text s.now t)) }
 {
-    let d = sigmf_datatypes::name_length(t.datatype);
-    let c = decimal_length(t.channels);
-    let o = decimal_length(t.offset);
-    let e = decimal_length(t.trailing);
-    let n = 112 + d + c + o + e;
-    if n > room {
-        return Left::Over;
-    }
-    raw_left(20, s, t.rate, room - n)
+    let name = sigmf_datatypes::name_length(t.datatype);
+    let numbers = decimal_length(t.channels)
+        + decimal_length(t.offset)
+        + decimal_length(t.trailing);
+    raw_left(20, s, t.rate, room.checked_sub(112 + name + numbers)?)
 }
 
 // How long capture k is, with its comma: its words have 43 bytes.
+#[tactic(auto, using(crate::proofs::LengthLaws::capture_long))]
 pub(crate) fn capture_length(k: usize, x: Capture) -> usize
     ensures { result ≡ length (comma_before k ++ capture_text x) }
 {
-    let c = comma_length(k);
-    let a = decimal_length(x.start);
-    let h = decimal_length(x.header);
-    43 + c + a + h
+    43 + comma_length(k) + decimal_length(x.start) + decimal_length(x.header)
 }
 
 // What annotation k leaves of a room, with its comma: its words have 43 bytes, those of a label 16.
-pub(crate) fn annotation_left(k: usize, x: Annotation, s: &[u8], room: usize) -> Left
+#[tactic(auto, using(std::proofs::lemmas::Bool::Decides::nat_tests, crate::proofs::LengthLaws::annotation_long), unfolding(output::specs::Left::left_after))]
+pub(crate) fn annotation_left(k: usize, x: Annotation, s: &[u8], room: usize) -> Option<usize>
     ensures { result ≡ left_after room (length (comma_before k ++ annotation_text s.now x)) }
 {
-    let c = comma_length(k);
-    let a = decimal_length(x.start);
-    let h = decimal_length(count_of(x));
-    let n = 43 + c + a + h;
-    if n > room {
-        return Left::Over;
-    }
-    raw_left(16, s, x.texts.label, room - n)
+    let numbers = decimal_length(x.start) + decimal_length(count_of(x));
+    let left = room.checked_sub(43 + comma_length(k) + numbers)?;
+    raw_left(16, s, x.texts.label, left)
 }
 
 // ---- the same, written
 
 // A raw text between two words, or nothing if it is absent.
+#[tactic(auto, using(std::proofs::lemmas::Bool::Decides::nat_tests, std::proofs::lemmas::Slice::overwrites), unfolding(output::specs::Put::put_count, output::specs::Put::put_front, crate::specs::TextParts::raw_member))]
 fn put_raw(out: &mut [u8], before: &[u8], s: &[u8], p: Place, after: &[u8]) -> usize
     requires { length (raw_member before.now s.now p after.now) ≤ length out.old }
     ensures count { result ≡ length (raw_member before.now s.now p after.now) }
@@ -118,6 +99,7 @@ fn put_comma(out: &mut [u8], k: usize) -> usize
 }
 
 // The first members of global: datatype, version and channels.
+#[tactic(auto, using(std::proofs::lemmas::Bool::Decides::nat_tests, std::proofs::lemmas::Slice::overwrites), unfolding(output::specs::Put::put_count, output::specs::Put::put_front))]
 fn put_format(out: &mut [u8], t: Summary) -> usize
     requires { length (format_text t) ≤ length out.old }
     ensures count { result ≡ length (format_text t) }
@@ -134,6 +116,7 @@ fn put_format(out: &mut [u8], t: Summary) -> usize
 }
 
 // What comes before the captures.
+#[tactic(auto, using(std::proofs::lemmas::Bool::Decides::nat_tests, std::proofs::lemmas::Slice::overwrites, crate::proofs::LengthLaws::head_in_long), unfolding(output::specs::Put::put_count, output::specs::Put::put_front))]
 pub(crate) fn put_head(out: &mut [u8], t: Summary, s: &[u8]) -> usize
     requires { length (head_text s.now t) ≤ length out.old }
     ensures count { result ≡ length (head_text s.now t) }
@@ -148,6 +131,7 @@ pub(crate) fn put_head(out: &mut [u8], t: Summary, s: &[u8]) -> usize
 }
 
 // Capture k, with its comma.
+#[tactic(auto, using(std::proofs::lemmas::Bool::Decides::nat_tests, std::proofs::lemmas::Slice::overwrites, crate::proofs::LengthLaws::capture_in_long), unfolding(output::specs::Put::put_count, output::specs::Put::put_front))]
 pub(crate) fn put_capture(out: &mut [u8], k: usize, x: Capture) -> usize
     requires { length (comma_before k ++ capture_text x) ≤ length out.old }
     ensures count { result ≡ length (comma_before k ++ capture_text x) }
@@ -161,6 +145,7 @@ pub(crate) fn put_capture(out: &mut [u8], k: usize, x: Capture) -> usize
 }
 
 // Annotation k, with its comma.
+#[tactic(auto, using(std::proofs::lemmas::Bool::Decides::nat_tests, std::proofs::lemmas::Slice::overwrites, crate::proofs::LengthLaws::annotation_in_long), unfolding(output::specs::Put::put_count, output::specs::Put::put_front))]
 pub(crate) fn put_annotation(out: &mut [u8], k: usize, x: Annotation, s: &[u8]) -> usize
     requires { length (comma_before k ++ annotation_text s.now x) ≤ length out.old }
     ensures count { result ≡ length (comma_before k ++ annotation_text s.now x) }

@@ -1,39 +1,55 @@
 use native.Mathlib.Omega.{arith}
-use Prim.Native.Nat.{◌-◌}
-use mathlib.Core.Path.{sym, ◌∙◌}
-use Rattle.first_line.proofs.Laws.{read_begin, read_many, read_over, read_on, read_other, read_feed}
-use Rattle.json_blocks.proofs.ByteLaws.{within_is}
+use lib.ListN.{get_or-eq_default}
+use mathlib.Core.Path.{refl, ap, ◌∙◌}
+use Rattle.json_blocks.specs.TextBytes.{byte}
+use Rattle.first_line.specs.FirstLine.{line_says}
+use Rattle.first_line.proofs.Laws.{digit_is, digit_below, digit_above, read_begin, read_many, read_over, read_on, read_none, read_other, read_feed}
 use Rattle.first_line.proofs.first_line.Goals as goal
 
-pub loop-n-init : goal.loop-n-init
-loop-n-init c = read_begin _
+pub loop-i-init : goal.loop-i-init
+loop-i-init c = read_begin _
 
-pub returns-then-i-ge-DIGITS : goal.returns-then-i-ge-DIGITS
-returns-then-i-ge-DIGITS c = read_many c.args.input.now _ _ c.loop-n.invariant _ c.peek-b.ensures (sym c.is_within.ensures ∙ c.if-is_within.true) c.if-i-ge-DIGITS.true
+pub returns-in_err-n-in-48-to-57 : goal.returns-in_err-n-in-48-to-57
+returns-in_err-n-in-48-to-57 c =
+    let b = byte c.args.input.now c.loop-i.i in
+    ap line_says c.from_residual.ensures ∙ read_over _ _ _ c.loop-i.invariant b refl (digit_is b (omega arith) (omega arith)) (omega (arith, c.in_err-n-in-48-to-57.ensures))
 
-pub overflow_sub-d : goal.overflow_sub-d
-overflow_sub-d c = let h = within_is _ _ _ (sym c.is_within.ensures ∙ c.if-is_within.true) in let v = c.loop-n.invariant in omega (arith, h.0)
+pub loop-i-preserved : goal.loop-i-preserved
+loop-i-preserved c =
+    let b = byte c.args.input.now c.loop-i.i in
+    let e = c.in_ok-n-in-48-to-57.ensures in
+    rw e.1 (read_on _ _ _ c.loop-i.invariant b refl (digit_is b (omega arith) (omega arith)) e.0 (omega arith))
 
-pub overflow_cast-d : goal.overflow_cast-d
-overflow_cast-d c = let h = within_is _ _ _ (sym c.is_within.ensures ∙ c.if-is_within.true) in let v = c.loop-n.invariant in omega (arith, h.1)
+pub returns-in-10 : goal.returns-in-10
+returns-in-10 c =
+    let b = byte c.args.input.now c.loop-i.i in
+    read_feed _ _ _ c.loop-i.invariant b refl (digit_below b (omega arith)) (omega arith) (omega arith)
 
-pub overflow_sub-d-then-is_within : goal.overflow_sub-d-then-is_within
-overflow_sub-d-then-is_within c = let h = within_is _ _ _ (sym c.is_within.ensures ∙ c.if-is_within.true) in let v = c.loop-n.invariant in omega (arith, h.1)
+-- a line feed and no digit
+pub returns-in_default : goal.returns-in_default
+returns-in_default c =
+    let b = byte c.args.input.now c.loop-i.i in
+    read_none _ _ _ c.loop-i.invariant b refl (digit_below b (omega arith)) (omega arith)
 
-pub returns-then-n-d : goal.returns-then-n-d
-returns-then-n-d c = read_over c.args.input.now _ _ c.loop-n.invariant _ c.peek-b.ensures (sym c.is_within.ensures ∙ c.if-is_within.true) (let h = within_is _ _ _ (sym c.is_within.ensures ∙ c.if-is_within.true) in let v = c.loop-n.invariant in omega (arith, h.0, h.1))
+-- a byte below the digits
+pub returns-in_default-2 : goal.returns-in_default-2
+returns-in_default-2 c =
+    let b = byte c.args.input.now c.loop-i.i in
+    read_other _ _ _ c.loop-i.invariant b refl (digit_below b (omega arith)) (omega arith)
 
-pub overflow_add-n : goal.overflow_add-n
-overflow_add-n c = let h = within_is _ _ _ (sym c.is_within.ensures ∙ c.if-is_within.true) in let v = c.loop-n.invariant in omega (arith, h.0, h.1)
+-- a digit too many
+pub returns-in_default-3 : goal.returns-in_default-3
+returns-in_default-3 c =
+    let b = byte c.args.input.now c.loop-i.i in
+    read_many _ _ _ c.loop-i.invariant b refl (digit_is b (omega arith) (omega arith)) (omega arith)
 
-pub loop-n-preserved : goal.loop-n-preserved
-loop-n-preserved c = read_on c.args.input.now _ _ c.loop-n.invariant _ c.peek-b.ensures (sym c.is_within.ensures ∙ c.if-is_within.true) (let h = within_is _ _ _ (sym c.is_within.ensures ∙ c.if-is_within.true) in let v = c.loop-n.invariant in omega (arith, h.0, h.1)) c.if-i-ge-DIGITS.false
+-- a byte above the digits
+pub returns-in_default-4 : goal.returns-in_default-4
+returns-in_default-4 c =
+    let b = byte c.args.input.now c.loop-i.i in
+    read_other _ _ _ c.loop-i.invariant b refl (digit_above b (omega arith)) (omega arith)
 
-pub overflow_add-result : goal.overflow_add-result
-overflow_add-result c = omega (arith, c.loop-n.invariant)
-
-pub returns-then-b-eq10 : goal.returns-then-b-eq10
-returns-then-b-eq10 c = read_feed c.args.input.now _ _ c.loop-n.invariant _ c.peek-b.ensures (sym c.is_within.ensures ∙ c.if-is_within.false) (omega arith) c.if-b-eq10.true
-
-pub returns-else-is_within : goal.returns-else-is_within
-returns-else-is_within c = read_other c.args.input.now _ _ c.loop-n.invariant _ c.peek-b.ensures (sym c.is_within.ensures ∙ c.if-is_within.false) c.if-b-eq10.false
+pub returns : goal.returns
+returns c =
+    let e = get_or-eq_default c.args.input.now 0 {n = c.loop-i.i} c.loop-i-test.false in
+    read_other _ _ _ c.loop-i.invariant _ refl (digit_below _ (omega arith)) (omega arith)

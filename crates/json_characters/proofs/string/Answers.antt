@@ -1,24 +1,18 @@
 use native.Mathlib.Omega.{arith}
-use mathlib.Core.Path.{refl, ◌∙◌}
-use Rattle.json_blocks.proofs.ByteLaws.{inside}
-use Rattle.json_characters.proofs.StringLaws.{string_close, string_bad, string_less, string_on}
-use Rattle.json_characters.proofs.StringLaws.{plain_strings}
+use mathlib.Core.Path.{◌∙◌}
+use Rattle.json_characters.proofs.StringLaws.{string_close, string_bad, string_less, string_on, plain_strings}
 use Rattle.json_characters.proofs.string.Goals as goal
 
-pub loop-i-init : goal.loop-i-init
-loop-i-init c = refl
-
-pub overflow_add-result : goal.overflow_add-result
-overflow_add-result c = omega (arith, inside c.args.s.now c.loop-i.i _ c.peek-b.ensures (omega arith))
-
-pub returns-then-b-eq34 : goal.returns-then-b-eq34
-returns-then-b-eq34 c = string_close c.args.s.now c.loop-i.i _ c.peek-b.ensures c.if-b-eq34.true ∙ c.loop-i.invariant ∙ plain_strings c.args.s.now c.args.start.at c.skip_plain-i.result c.skip_plain-i.ensures
-
-pub returns-in_default : goal.returns-in_default
-returns-in_default c = string_bad c.args.s.now c.loop-i.i _ c.peek-b.ensures c.if-b-eq34.false _ c.character-r.ensures c.in_default.is ∙ c.loop-i.invariant ∙ plain_strings c.args.s.now c.args.start.at c.skip_plain-i.result c.skip_plain-i.ensures
+pub returns-in_err-i : goal.returns-in_err-i
+returns-in_err-i c = c.from_residual.ensures ∙ string_bad _ _ _ c.peek.ensures c.loop-i-test.true _ c.character.ensures c.in_err-i.was ∙ c.loop-i.invariant ∙ plain_strings _ _ _ c.skip_blocks-i.ensures
 
 pub loop-i-smaller : goal.loop-i-smaller
-loop-i-smaller c = let m = string_less c.args.s.now c.loop-i.i _ c.peek-b.ensures c.if-b-eq34.false _ c.character-r.ensures _ c.in-To.is in omega (arith, m.0, m.1)
+loop-i-smaller c =
+    let m = string_less _ _ _ c.peek.ensures c.loop-i-test.true _ c.character.ensures _ c.in_ok-i.was in
+    omega (arith, m.0, m.1)
 
 pub loop-i-preserved : goal.loop-i-preserved
-loop-i-preserved c = string_on c.args.s.now c.loop-i.i _ c.peek-b.ensures c.if-b-eq34.false _ c.character-r.ensures _ c.in-To.is ∙ c.loop-i.invariant
+loop-i-preserved c = string_on _ _ _ c.peek.ensures c.loop-i-test.true _ c.character.ensures _ c.in_ok-i.was ∙ c.loop-i.invariant
+
+pub returns : goal.returns
+returns c = string_close _ _ _ c.peek.ensures c.loop-i-test.false ∙ c.loop-i.invariant ∙ plain_strings _ _ _ c.skip_blocks-i.ensures

@@ -1,9 +1,7 @@
 use native.Mathlib.Omega.{arith}
-use Prim.Native.Nat.{◌-◌}
 use mathlib.Core.Path.{refl, sym, ◌∙◌}
 use Rattle.json_automaton.proofs.Accept.{run_past}
 use Rattle.json_transitions.proofs.Laws.{run_on}
-use Rattle.json_transitions.proofs.run.Lts as lts
 use Rattle.json_transitions.proofs.run.Goals as goal
 
 pub loop-i-init : goal.loop-i-init

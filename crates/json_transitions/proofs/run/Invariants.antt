@@ -2,7 +2,6 @@ use lib.ListN.{length, drop}
 use Prim.Native.Nat.{◌-◌}
 use mathlib.Core.Path.{◌≡◌}
 use Rattle.json_automaton.specs.Control.{run_moves}
-use Rattle.json_transitions.proofs.run.Lts as lts
 use Rattle.json_transitions.proofs.run.Given as goal
 
 abbrev pub invariant-loop-i : goal.invariant-loop-i

@@ -1,5 +1,4 @@
 use Rattle.json_transitions.proofs.Laws.{kept_lost, kept_blanks}
-use Rattle.json_transitions.proofs.skip_between.Lts as lts
 use Rattle.json_transitions.proofs.skip_between.Goals as goal
 
 pub returns-then-c-eq0 : goal.returns-then-c-eq0

@@ -1,11 +1,8 @@
-use borrow.Author.Rules.{rules}
 use native.Mathlib.Omega.{arith}
-use Prim.Native.Nat.{◌-◌}
-use Rattle.output.proofs.Writing.{Writes, writes_none, writes_end, writes_long, next_from, next_room, next_sum, writes_next, whole_part}
+use Rattle.output.proofs.Writing.{writes_none, writes_end, writes_long, next_from, next_room, next_sum, writes_next, whole_part}
 use Rattle.output.proofs.RowLines.{write_more, write_none}
 use Rattle.listing.specs.Lines.{capture_line}
-use Rattle.table.specs.Rows.{capture_at, rest, flat}
-use mathlib.Core.List.{[], ◌∷◌}
+use Rattle.table.specs.Rows.{capture_at}
 use Rattle.listing.proofs.write_captures.Goals as goal
 
 pub loop-k-init : goal.loop-k-init
@@ -17,16 +14,16 @@ slice_bounds-put_capture_line-count c = next_from c.loop-k.invariant
 pub slice_bounds-put_capture_line-start : goal.slice_bounds-put_capture_line-start
 slice_bounds-put_capture_line-start c = next_from c.loop-k.invariant
 
-pub put_capture_line-l-requires : goal.put_capture_line-l-requires
-put_capture_line-l-requires c = next_room (write_more capture_line (capture_at c.args.caps.now) _ _ _ c.capture_at-x.ensures c.loop-k-test.true c.loop-k.invariant)
+pub put_capture_line-used-requires : goal.put_capture_line-used-requires
+put_capture_line-used-requires c = next_room (write_more capture_line (capture_at c.args.caps.now) _ _ _ c.capture_at-x.ensures c.loop-k-test.true c.loop-k.invariant)
 
 pub overflow_add-used : goal.overflow_add-used
 overflow_add-used c =
     let g = c.well_formed in
-    omega (arith, next_sum (write_more capture_line (capture_at c.args.caps.now) _ _ _ c.capture_at-x.ensures c.loop-k-test.true c.loop-k.invariant) (c.put_capture_line-l.ensures.count, c.put_capture_line-l.ensures.memory))
+    omega (arith, next_sum (write_more capture_line (capture_at c.args.caps.now) _ _ _ c.capture_at-x.ensures c.loop-k-test.true c.loop-k.invariant) (c.put_capture_line-used.ensures.count, c.put_capture_line-used.ensures.memory))
 
 pub loop-k-preserved : goal.loop-k-preserved
-loop-k-preserved c = writes_next (write_more capture_line (capture_at c.args.caps.now) _ _ _ c.capture_at-x.ensures c.loop-k-test.true c.loop-k.invariant) (c.put_capture_line-l.ensures.count, c.put_capture_line-l.ensures.memory)
+loop-k-preserved c = writes_next (write_more capture_line (capture_at c.args.caps.now) _ _ _ c.capture_at-x.ensures c.loop-k-test.true c.loop-k.invariant) (c.put_capture_line-used.ensures.count, c.put_capture_line-used.ensures.memory)
 
 pub shape_of-out : goal.shape_of-out
 shape_of-out c = writes_long c.loop-k.invariant

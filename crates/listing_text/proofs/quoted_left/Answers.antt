@@ -1,21 +1,27 @@
-use Rattle.json_strings.proofs.DecodeLaws.{streamed_next, streamed_end, shorter}
-use Rattle.listing_text.proofs.ShownLaws.{quotes_over, text_begin, text_end, text_over, text_on}
+use native.Mathlib.Omega.{arith}
+use Rattle.std.proofs.lemmas.Bool.Decides.{nat_tests}
+use Rattle.json_strings.proofs.DecodeLaws.{streamed_next, shorter}
+use Rattle.output.specs.Left.{left_after}
+use Rattle.listing_text.proofs.ShownLaws.{shown_more, shown_none}
 use Rattle.listing_text.proofs.quoted_left.Goals as goal
 
-pub returns-then-room-lt2 : goal.returns-then-room-lt2
-returns-then-room-lt2 c = quotes_over _ _ c.if-room-lt2.true
-
-pub loop-b-init : goal.loop-b-init
-loop-b-init c = text_begin _ _ c.if-room-lt2.false
-
-pub returns-in_default : goal.returns-in_default
-returns-in_default c = text_end _ _ _ c.loop-b.invariant (streamed_end _ _ _ c.next_byte-g.ensures c.in_default.is)
-
-pub returns-then-n-left : goal.returns-then-n-left
-returns-then-n-left c = text_over _ _ _ c.loop-b.invariant _ _ _ (streamed_next _ _ _ c.next_byte-g.ensures _ _ c.in-Next.is) c.byte_length-n.ensures c.if-n-left.true
-
 pub loop-b-smaller : goal.loop-b-smaller
-loop-b-smaller c = shorter _ _ _ (streamed_next _ _ _ c.next_byte-g.ensures _ _ c.in-Next.is)
+loop-b-smaller c = shorter _ _ _ (streamed_next _ _ _ c.next_byte.ensures _ _ c.in-Some.is)
+
+pub returns-in_err-left-2 : goal.returns-in_err-left-2
+unfolding left_after
+returns-in_err-left-2 c =
+    let e = shown_more _ _ _ c.next_byte.ensures _ _ c.in-Some.is in
+    grind (arith, nat_tests)
 
 pub loop-b-preserved : goal.loop-b-preserved
-loop-b-preserved c = text_on _ _ _ c.loop-b.invariant _ _ _ (streamed_next _ _ _ c.next_byte-g.ensures _ _ c.in-Next.is) c.byte_length-n.ensures c.if-n-left.false
+unfolding left_after
+loop-b-preserved c =
+    let e = shown_more _ _ _ c.next_byte.ensures _ _ c.in-Some.is in
+    grind (arith, nat_tests)
+
+pub returns : goal.returns
+unfolding left_after
+returns c =
+    let e = shown_none _ _ _ c.next_byte.ensures c.in_default.is in
+    grind (arith, nat_tests)

@@ -1,6 +1,5 @@
 use mathlib.Core.Path.{◌∙◌}
 use Rattle.reader.proofs.StageLaws.{text_json, judge_parts, judge_samples}
-use borrow.Author.Rules.{rules}
 use Rattle.reader.proofs.judge_with.Goals as goal
 
 pub scan-x-requires : goal.scan-x-requires

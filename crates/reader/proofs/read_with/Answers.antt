@@ -1,6 +1,5 @@
 use mathlib.Core.Path.{◌∙◌}
 use Rattle.reader.proofs.StageLaws.{text_json, read_parts, answer_samples, captures_samples, annotations_samples}
-use borrow.Author.Rules.{rules}
 use Rattle.reader.proofs.read_with.Goals as goal
 
 pub scan-x-requires : goal.scan-x-requires

@@ -1,5 +1,4 @@
 use Rattle.reader_layout.proofs.EntryLaws.{entry_in, entry_out}
-use Rattle.reader_layout.proofs.entry_at.Lts as lts
 use Rattle.reader_layout.proofs.entry_at.Goals as goal
 
 pub returns-then-i-m : goal.returns-then-i-m

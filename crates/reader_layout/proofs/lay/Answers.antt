@@ -1,5 +1,4 @@
 use Rattle.reader_layout.proofs.JudgeLaws.{same_answer, same_rows, same_anns, lay_ends, lay_below, lay_captures, lay_notes, rows_room, anns_room, lay_20, lay_rows_20, lay_anns_20, lay_20', lay_rows_20', lay_anns_20', lay_0, lay_rows_0, lay_anns_0}
-use Rattle.reader_layout.proofs.lay.Lts as lts
 use Rattle.reader_layout.proofs.lay.Goals as goal
 
 pub returns-then-t-ne0 : goal.returns-then-t-ne0

@@ -1,5 +1,4 @@
 use Rattle.reader_layout.proofs.EntryLaws.{note_in, note_out}
-use Rattle.reader_layout.proofs.note_at.Lts as lts
 use Rattle.reader_layout.proofs.note_at.Goals as goal
 
 pub returns-then-i-m : goal.returns-then-i-m

@@ -1,14 +1,6 @@
 use native.Mathlib.Omega.{arith}
 use Rattle.reader_layout.proofs.EntryLaws.{entry_put, put_none}
-use lib.ListN.{length-set}
-use Rattle.reader_layout.proofs.put_entry.Lts as lts
 use Rattle.reader_layout.proofs.put_entry.Goals as goal
-
-pub bounds-out-p-then-i-out : goal.bounds-out-p-then-i-out
-bounds-out-p-then-i-out c = simp length-set (omega arith)
-
-pub shape_of-out : goal.shape_of-out
-shape_of-out c = simp length-set
 
 pub returns-then-i-out : goal.returns-then-i-out
 returns-then-i-out c = entry_put c.args.out.now c.args.i _ _ c.if-i-out.true

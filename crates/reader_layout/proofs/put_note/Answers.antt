@@ -1,24 +1,7 @@
 use native.Mathlib.Omega.{arith}
 use Rattle.reader_layout.proofs.EntryLaws.{note_put, put_none}
-use lib.ListN.{length-set}
 use Rattle.reader_layout.specs.Entries.{note_width}
-use Rattle.reader_layout.proofs.put_note.Lts as lts
 use Rattle.reader_layout.proofs.put_note.Goals as goal
-
-pub bounds-out-p-then-i-out : goal.bounds-out-p-then-i-out
-bounds-out-p-then-i-out c = simp length-set (omega arith)
-
-pub bounds-out-p-then-i-out-2 : goal.bounds-out-p-then-i-out-2
-bounds-out-p-then-i-out-2 c = simp length-set (omega arith)
-
-pub bounds-out-p-then-i-out-3 : goal.bounds-out-p-then-i-out-3
-bounds-out-p-then-i-out-3 c = simp length-set (omega arith)
-
-pub bounds-out-p-then-i-out-4 : goal.bounds-out-p-then-i-out-4
-bounds-out-p-then-i-out-4 c = simp length-set (omega arith)
-
-pub shape_of-out : goal.shape_of-out
-shape_of-out c = simp length-set
 
 pub returns-then-i-out : goal.returns-then-i-out
 returns-then-i-out c = note_put c.args.out.now c.args.i _ _ _ _ _ _ _ c.if-i-out.true c.count_given-given.ensures c.count_number-number.ensures

@@ -1,5 +1,5 @@
-use lib.ListN.{length, drop}
-use Prim.Native.Nat.{◌-◌, ◌+◌}
+use lib.ListN.{drop}
+use Prim.Native.Nat.{◌+◌}
 use mathlib.Core.Path.{◌≡◌}
 use Rattle.sigmf_datatypes.specs.Datatypes.{datatypes}
 use Rattle.sigmf_texts.specs.Lookup.{index_in}
@@ -7,8 +7,5 @@ use Rattle.sigmf_texts.specs.Texts.{value_text, code_of}
 use Rattle.sigmf_texts.proofs.DatatypeLaws.{named}
 use Rattle.sigmf_texts.proofs.datatype.Given as goal
 
-abbrev pub invariant-loop-word : goal.invariant-loop-word
-invariant-loop-word l = l.code + index_in named (drop l.code datatypes) (value_text l.part) ≡ code_of (value_text l.part)
-
-abbrev pub decreases-loop-word : goal.decreases-loop-word
-decreases-loop-word l = length datatypes - l.code
+abbrev pub invariant-loop-code : goal.invariant-loop-code
+invariant-loop-code l = l.code + index_in named (drop l.code datatypes) (value_text l.part) ≡ code_of (value_text l.part)

@@ -1,10 +1,5 @@
-use Prim.Native.Nat.{◌-◌}
-use Rattle.table.proofs.LocateLaws.{laid_sum, place_low, place_mul, place_add, place_is}
-use Rattle.table.proofs.sample_place.Lts as lts
+use Rattle.table.proofs.LocateLaws.{place_low, place_mul, place_add, place_is}
 use Rattle.table.proofs.sample_place.Goals as goal
-
-pub headers_to-h-requires : goal.headers_to-h-requires
-headers_to-h-requires c = search laid_sum
 
 pub bytes_before-requires : goal.bytes_before-requires
 bytes_before-requires c = (search place_low, search place_mul)

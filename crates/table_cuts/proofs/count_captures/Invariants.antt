@@ -1,12 +1,7 @@
-use Prim.Native.Nat.{◌-◌}
 use Rattle.table.specs.Rows.{capture_at}
 use Rattle.table_cuts.specs.Cut.{shares_capture}
 use Rattle.table_cuts.proofs.KeepLaws.{Counting}
-use Rattle.table_cuts.proofs.count_captures.Lts as lts
 use Rattle.table_cuts.proofs.count_captures.Given as goal
 
 abbrev pub invariant-loop-k : goal.invariant-loop-k
 invariant-loop-k l = Counting (capture_at l.caps) (shares_capture l.a l.b) l.n l.c l.k
-
-abbrev pub decreases-loop-k : goal.decreases-loop-k
-decreases-loop-k l = l.n - l.k

@@ -1,7 +1,5 @@
-use Prim.Native.Nat.{◌-◌}
 use Rattle.table_pieces.proofs.PiecesLaws.{walk_sum, walk_low_lem, run_up, run_less}
 use Rattle.table_pieces.proofs.CopyCode.{copy_begin, copy_done, run_in, run_room, copy_on}
-use Rattle.table_pieces.proofs.copy_samples.Lts as lts
 use Rattle.table_pieces.proofs.copy_samples.Goals as goal
 
 pub loop-i-init : goal.loop-i-init

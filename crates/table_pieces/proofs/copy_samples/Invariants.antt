@@ -1,6 +1,5 @@
 use Prim.Native.Nat.{◌-◌}
 use Rattle.table_pieces.proofs.CopyCode.{Copying}
-use Rattle.table_pieces.proofs.copy_samples.Lts as lts
 use Rattle.table_pieces.proofs.copy_samples.Given as goal
 
 abbrev pub invariant-loop-i : goal.invariant-loop-i

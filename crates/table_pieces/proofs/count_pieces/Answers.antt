@@ -1,6 +1,4 @@
-use Prim.Native.Nat.{◌-◌}
 use Rattle.table_pieces.proofs.PiecesLaws.{count_begin, walk_sum, run_less, count_on, count_done}
-use Rattle.table_pieces.proofs.count_pieces.Lts as lts
 use Rattle.table_pieces.proofs.count_pieces.Goals as goal
 
 pub loop-i-init : goal.loop-i-init

@@ -1,6 +1,5 @@
 use Prim.Native.Nat.{◌-◌}
 use Rattle.table_pieces.proofs.PiecesLaws.{Counting}
-use Rattle.table_pieces.proofs.count_pieces.Lts as lts
 use Rattle.table_pieces.proofs.count_pieces.Given as goal
 
 abbrev pub invariant-loop-i : goal.invariant-loop-i

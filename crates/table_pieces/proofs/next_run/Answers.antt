@@ -1,6 +1,4 @@
-use Prim.Native.Nat.{◌-◌}
 use Rattle.table_pieces.proofs.Walk.{find_begin, find_none, find_past, find_break, find_on, find_fits}
-use Rattle.table_pieces.proofs.next_run.Lts as lts
 use Rattle.table_pieces.proofs.next_run.Goals as goal
 
 pub loop-j-init : goal.loop-j-init

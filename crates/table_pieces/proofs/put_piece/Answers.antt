@@ -1,8 +1,6 @@
 use native.Mathlib.Omega.{arith}
-use Prim.Native.Nat.{◌-◌}
 use lib.ListN.{length-set}
 use Rattle.table_pieces.proofs.PiecesLaws.{put_pair}
-use Rattle.table_pieces.proofs.put_piece.Lts as lts
 use Rattle.table_pieces.proofs.put_piece.Goals as goal
 
 pub bounds-out-c-2 : goal.bounds-out-c-2

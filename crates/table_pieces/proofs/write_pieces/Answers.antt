@@ -1,6 +1,4 @@
-use Prim.Native.Nat.{◌-◌}
 use Rattle.table_pieces.proofs.PiecesLaws.{write_begin, walk_sum, walk_low_lem, run_up, run_first, run_len, run_less, write_room, write_c, write_on, write_done}
-use Rattle.table_pieces.proofs.write_pieces.Lts as lts
 use Rattle.table_pieces.proofs.write_pieces.Goals as goal
 
 pub loop-i-init : goal.loop-i-init

@@ -1,6 +1,5 @@
 use Rattle.table_stored.proofs.LoadLaws.{file_length, file_table, rows_same}
 use native.Mathlib.Omega.{arith}
-use Prim.Native.Nat.{◌-◌}
 use mathlib.Core.Path.{refl}
 use Rattle.table_stored.proofs.load_from.Goals as goal
 

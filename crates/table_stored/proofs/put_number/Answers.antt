@@ -1,32 +1,8 @@
-use native.Mathlib.Omega.{arith}
-use Prim.Native.Nat.{◌-◌}
-use Rattle.table_stored.proofs.CodeLaws.{eight_stores}
-use lib.ListN.{length-set}
+use mathlib.Core.Path.{◌∙◌}
+use Rattle.little_endian.proofs.NumberLaws.{length_bytes}
+use Rattle.little_endian.specs.LittleEndian.{number_width}
+use Rattle.table_stored.proofs.CodeLaws.{eight_bytes}
 use Rattle.table_stored.proofs.put_number.Goals as goal
 
-pub bounds-out-1 : goal.bounds-out-1
-bounds-out-1 c = simp length-set (omega arith)
-
-pub bounds-out-2 : goal.bounds-out-2
-bounds-out-2 c = simp length-set (omega arith)
-
-pub bounds-out-3 : goal.bounds-out-3
-bounds-out-3 c = simp length-set (omega arith)
-
-pub bounds-out-4 : goal.bounds-out-4
-bounds-out-4 c = simp length-set (omega arith)
-
-pub bounds-out-5 : goal.bounds-out-5
-bounds-out-5 c = simp length-set (omega arith)
-
-pub bounds-out-6 : goal.bounds-out-6
-bounds-out-6 c = simp length-set (omega arith)
-
-pub bounds-out-7 : goal.bounds-out-7
-bounds-out-7 c = simp length-set (omega arith)
-
-pub shape_of-out : goal.shape_of-out
-shape_of-out c = simp length-set
-
 pub returns : goal.returns
-returns c = eight_stores c.args.out.now c.args.x c.requires
+returns c = rw (c.copy_from_slice.ensures.after, c.to_le_bytes.ensures ∙ eight_bytes c.args.x, length_bytes number_width c.args.x)

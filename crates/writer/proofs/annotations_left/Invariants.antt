@@ -1,5 +1,4 @@
 use lib.ListN.{length}
-use Prim.Native.Nat.{◌-◌}
 use mathlib.Core.Path.{◌≡◌}
 use Rattle.table.specs.Rows.{annotation_at, rest, flat}
 use Rattle.writer.specs.TextParts.{item}
@@ -9,6 +8,3 @@ use Rattle.writer.proofs.annotations_left.Given as goal
 
 abbrev pub invariant-loop-k : goal.invariant-loop-k
 invariant-loop-k l = left_after l.left (length (flat (λ l. l) (rest (item (annotation_text l.s) (annotation_at l.notes)) l.n l.k))) ≡ left_after l.room (length (flat (λ l. l) (rest (item (annotation_text l.s) (annotation_at l.notes)) l.n 0)))
-
-abbrev pub decreases-loop-k : goal.decreases-loop-k
-decreases-loop-k l = l.n - l.k

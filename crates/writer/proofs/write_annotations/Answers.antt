@@ -1,5 +1,4 @@
 use native.Mathlib.Omega.{arith}
-use Prim.Native.Nat.{◌-◌}
 use mathlib.Core.Path.{ap}
 use Rattle.output.proofs.Writing.{writes_none, writes_end, writes_long, next_from, next_room, next_sum, writes_next, whole_part}
 use Rattle.output.proofs.RowLines.{write_more, write_none}
@@ -19,18 +18,18 @@ slice_bounds-put_annotation-count c = next_from c.loop-k.invariant
 pub slice_bounds-put_annotation-start : goal.slice_bounds-put_annotation-start
 slice_bounds-put_annotation-start c = next_from c.loop-k.invariant
 
-pub put_annotation-l-requires : goal.put_annotation-l-requires
-put_annotation-l-requires c =
+pub put_annotation-used-requires : goal.put_annotation-used-requires
+put_annotation-used-requires c =
     next_room (write_more (λ l. l) (item (annotation_text c.args.s.now) (annotation_at c.args.notes.now)) _ _ _ (ap (λ (x : Annotation). comma_before c.loop-k.k ++ annotation_text c.args.s.now x) c.annotation_at-x.ensures) c.loop-k-test.true c.loop-k.invariant)
 
 pub overflow_add-used : goal.overflow_add-used
 overflow_add-used c =
     let g = c.well_formed in
-    omega (arith, next_sum (write_more (λ l. l) (item (annotation_text c.args.s.now) (annotation_at c.args.notes.now)) _ _ _ (ap (λ (x : Annotation). comma_before c.loop-k.k ++ annotation_text c.args.s.now x) c.annotation_at-x.ensures) c.loop-k-test.true c.loop-k.invariant) (c.put_annotation-l.ensures.count, c.put_annotation-l.ensures.memory))
+    omega (arith, next_sum (write_more (λ l. l) (item (annotation_text c.args.s.now) (annotation_at c.args.notes.now)) _ _ _ (ap (λ (x : Annotation). comma_before c.loop-k.k ++ annotation_text c.args.s.now x) c.annotation_at-x.ensures) c.loop-k-test.true c.loop-k.invariant) (c.put_annotation-used.ensures.count, c.put_annotation-used.ensures.memory))
 
 pub loop-k-preserved : goal.loop-k-preserved
 loop-k-preserved c =
-    writes_next (write_more (λ l. l) (item (annotation_text c.args.s.now) (annotation_at c.args.notes.now)) _ _ _ (ap (λ (x : Annotation). comma_before c.loop-k.k ++ annotation_text c.args.s.now x) c.annotation_at-x.ensures) c.loop-k-test.true c.loop-k.invariant) (c.put_annotation-l.ensures.count, c.put_annotation-l.ensures.memory)
+    writes_next (write_more (λ l. l) (item (annotation_text c.args.s.now) (annotation_at c.args.notes.now)) _ _ _ (ap (λ (x : Annotation). comma_before c.loop-k.k ++ annotation_text c.args.s.now x) c.annotation_at-x.ensures) c.loop-k-test.true c.loop-k.invariant) (c.put_annotation-used.ensures.count, c.put_annotation-used.ensures.memory)
 
 pub shape_of-out : goal.shape_of-out
 shape_of-out c = writes_long c.loop-k.invariant

@@ -1,4 +1,3 @@
-use Prim.Native.Nat.{◌-◌}
 use Rattle.output.proofs.Writing.{Writes}
 use Rattle.table.specs.Rows.{annotation_at, rest, flat}
 use Rattle.writer.specs.TextParts.{item}
@@ -8,6 +7,3 @@ use Rattle.writer.proofs.write_annotations.Given as goal
 
 abbrev pub invariant-loop-k : goal.invariant-loop-k
 invariant-loop-k l = Writes (flat (λ l. l) (rest (item (annotation_text l.s) (annotation_at l.notes)) l.n 0)) l.initial.out l.out l.used (flat (λ l. l) (rest (item (annotation_text l.s) (annotation_at l.notes)) l.n l.k) ∷ [])
-
-abbrev pub decreases-loop-k : goal.decreases-loop-k
-decreases-loop-k l = l.n - l.k

@@ -1,4 +1,3 @@
-use Prim.Native.Nat.{◌-◌}
 use Rattle.output.proofs.Writing.{Writes}
 use Rattle.table.specs.Rows.{capture_at, rest, flat}
 use Rattle.writer.specs.TextParts.{item}
@@ -8,6 +7,3 @@ use Rattle.writer.proofs.write_captures.Given as goal
 
 abbrev pub invariant-loop-k : goal.invariant-loop-k
 invariant-loop-k l = Writes (flat (λ l. l) (rest (item capture_text (capture_at l.caps)) l.n 0)) l.initial.out l.out l.used (flat (λ l. l) (rest (item capture_text (capture_at l.caps)) l.n l.k) ∷ [])
-
-abbrev pub decreases-loop-k : goal.decreases-loop-k
-decreases-loop-k l = l.n - l.k

@@ -1,11 +1,7 @@
-use native.Mathlib.Omega.{arith}
 use mathlib.Core.Path.{◌∙◌}
-use Rattle.json_blocks.proofs.ByteLaws.{inside}
-use Rattle.json_blocks.proofs.BlockLaws.{feed_pass}
+use Rattle.json_blocks.proofs.BlockLaws.{feed_pass, spaces_pass}
 use Rattle.json_blocks.proofs.Cursor.skip_indent.Goals as goal
 
-pub overflow_add-at : goal.overflow_add-at
-overflow_add-at c = omega (arith, inside c.args.s.now c.args.self.at _ c.peek-b.ensures (omega arith))
-
-pub returns-then-b-eq10 : goal.returns-then-b-eq10
-returns-then-b-eq10 c = c.skip_blanks.ensures ∙ c.skip_spaces-i.ensures ∙ feed_pass c.args.s.now c.args.self.at _ c.peek-b.ensures c.if-b-eq10.true
+pub returns-then-peek-eq10 : goal.returns-then-peek-eq10
+returns-then-peek-eq10 c =
+    c.skip_blanks.ensures ∙ spaces_pass _ _ _ c.skip_blocks-i.ensures ∙ feed_pass _ c.args.self.at _ c.peek.ensures c.if-peek-eq10.true

@@ -19,7 +19,7 @@ abbrev pub decreases-array-loop-d : goal.decreases-array-loop-d
 decreases-array-loop-d l = length l.s - l.i
 
 abbrev pub invariant-object-loop-v : goal.invariant-object-loop-v
-invariant-object-loop-v l = ObjectPass (l.depth - 1) l.s l.at l.initial.i l.used l.initial.places l.initial.keys l.places l.keys l.bad l.n l.i
+invariant-object-loop-v l = ObjectPass (l.depth - 1) l.s l.at l.initial.i l.used l.initial.places l.initial.keys l.places l.keys l.names.bad l.names.count l.i
 
 abbrev pub decreases-object-loop-v : goal.decreases-object-loop-v
 decreases-object-loop-v l = length l.s - l.i

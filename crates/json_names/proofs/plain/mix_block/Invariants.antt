@@ -1,5 +1,5 @@
 use lib.ListN.{drop}
-use Prim.Native.Nat.{◌≤◌, ◌<◌, ◌-◌, ◌+◌}
+use Prim.Native.Nat.{◌<◌, ◌-◌, ◌+◌}
 use mathlib.Core.Path.{◌≡◌}
 use mathlib.Core.Bool.{◌&&◌}
 use lib.ListN.{take}
@@ -8,7 +8,4 @@ use Rattle.json_names.specs.Keys.{key_from}
 use Rattle.json_names.proofs.plain.mix_block.Given as goal
 
 abbrev pub invariant-loop-k : goal.invariant-loop-k
-invariant-loop-k l = (l.k ≤ 8) × (l.h < 4294967296) × ((l.ok && all_at plain_byte (8 - l.k) l.s (l.i + l.k)) ≡ all_at plain_byte 8 l.s l.i) × (key_from 16777619 l.h (take (8 - l.k) (drop (l.i + l.k) l.s)) ≡ key_from 16777619 l.key (take 8 (drop l.i l.s)))
-
-abbrev pub decreases-loop-k : goal.decreases-loop-k
-decreases-loop-k l = 8 - l.k
+invariant-loop-k l = (l.h < 4294967296) × ((l.ok && all_at plain_byte (8 - l.k) l.s (l.i + l.k)) ≡ all_at plain_byte 8 l.s l.i) × (key_from 16777619 l.h (take (8 - l.k) (drop (l.i + l.k) l.s)) ≡ key_from 16777619 l.key (take 8 (drop l.i l.s)))

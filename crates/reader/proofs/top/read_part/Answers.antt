@@ -2,7 +2,6 @@ use mathlib.Core.Path.{sym, ap}
 use Rattle.reader.proofs.ReadLaws.{global_on, captures_on, annotations_on}
 use Rattle.reader.specs.Parts.{places_with}
 use Rattle.reader.specs.declared.TopName.{TopName}
-use borrow.Author.Rules.{rules}
 use Rattle.reader.proofs.top.read_part.Goals as goal
 
 pub read_globals-g-requires : goal.read_globals-g-requires
@@ -24,4 +23,4 @@ pub returns-in-Annotations : goal.returns-in-Annotations
 returns-in-Annotations c = record { places = ap (λ (n : TopName). places_with n c.args.at c.args.top.places) (sym c.in-Annotations.is); parts = annotations_on c.args.s.now c.args.at c.args.top _ _ c.requires.parts_read _ _ c.read_list-a.ensures.list; end = c.read_list-a.ensures.end }
 
 pub returns-in-Other : goal.returns-in-Other
-returns-in-Other c = record { places = ap (λ (n : TopName). places_with n c.args.at c.args.top.places) (sym c.in-Other.is); parts = c.requires.parts_read; end = c.skip_value-e.ensures }
+returns-in-Other c = record { places = ap (λ (n : TopName). places_with n c.args.at c.args.top.places) (sym c.in-Other.is); parts = c.requires.parts_read; end = c.skip_value.ensures }

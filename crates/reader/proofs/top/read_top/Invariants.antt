@@ -1,11 +1,6 @@
-use borrow.Author.Rules.{rules}
-use native.Mathlib.Omega.{arith}
 use lib.ListN.{length}
 use Prim.Native.Nat.{◌-◌}
-use mathlib.Core.Path.{sym, ◌∙◌}
-use Rattle.reader.proofs.TopLaws.{find_begin, find_end, find_read, find_past, find_on}
-use Rattle.reader.proofs.ReadLaws.{Reading, reading_begin, reading_room}
-use Rattle.json_blocks.proofs.ByteLaws.{inside}
+use Rattle.reader.proofs.ReadLaws.{Reading}
 use Rattle.reader.proofs.top.read_top.Given as goal
 
 abbrev pub invariant-loop-n : goal.invariant-loop-n

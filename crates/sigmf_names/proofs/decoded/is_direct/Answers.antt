@@ -1,16 +1,13 @@
-use mathlib.Core.Path.{refl}
-use borrow.Author.Tests.{eq-eqb, ne_eqb, lt-ltb, le-ltb}
+use Rattle.std.proofs.Common.{arith}
+use borrow.Author.Tests.{eq-eqb, lt-ltb}
+use Rattle.std.proofs.lemmas.Bool.Decides.{nat_tests}
 use Rattle.sigmf_names.specs.DecodedCode.{direct_at}
 use Rattle.sigmf_names.proofs.decoded.is_direct.Goals as goal
 
-pub returns-then-at-raw : goal.returns-then-at-raw
+pub returns-then-p-raw : goal.returns-then-p-raw
 unfolding direct_at
-returns-then-at-raw c = rw (eq-eqb _ _ c.if-p-eq0.true, lt-ltb _ _ c.if-at-raw.true) c.is_ordinary.ensures
+returns-then-p-raw c = rw (eq-eqb _ _ c.if-p-raw.true.0, lt-ltb _ _ c.if-p-raw.true.1) c.is_ordinary.ensures
 
-pub returns-then-p-eq0 : goal.returns-then-p-eq0
+pub returns-else-p-raw : goal.returns-else-p-raw
 unfolding direct_at
-returns-then-p-eq0 c = rw (eq-eqb _ _ c.if-p-eq0.true, le-ltb _ _ c.if-at-raw.false) refl
-
-pub returns : goal.returns
-unfolding direct_at
-returns c = rw (ne_eqb _ _ c.if-p-eq0.false) refl
+returns-else-p-raw c = grind (arith, nat_tests)

@@ -1,25 +1,18 @@
 use native.Mathlib.Omega.{arith}
-use Prim.Native.Nat.{◌-◌}
 use mathlib.Core.Path.{sym, ◌∙◌}
 use Rattle.sigmf_names.proofs.DecodedLaws.{blocks_on, blocks_not, blocks_end}
 use Rattle.sigmf_names.proofs.decoded.is_verbatim.Goals as goal
 
-pub returns-then-raw-lt-BLOCK : goal.returns-then-raw-lt-BLOCK
-returns-then-raw-lt-BLOCK c = c.is_short_verbatim.ensures
-
-pub loop-i-init : goal.loop-i-init
-loop-i-init c = λ j l. absurd (omega arith)
-
 pub loop-i-preserved : goal.loop-i-preserved
 loop-i-preserved c =
     let loop = c.loop-i in
-    blocks_on c.args.raw.now loop.i loop.invariant (sym c.is_ordinary_block.ensures ∙ c.if-is_ordinary_block.true)
+    blocks_on c.args.raw.now loop.i loop.invariant (sym c.is_ordinary_block.ensures ∙ c.if-not-is_ordinary_block.false)
 
-pub returns-else-is_ordinary_block : goal.returns-else-is_ordinary_block
-returns-else-is_ordinary_block c =
+pub returns-then-not-is_ordinary_block : goal.returns-then-not-is_ordinary_block
+returns-then-not-is_ordinary_block c =
     blocks_not c.args.raw.now c.loop-i.i
     (omega (arith, c.loop-i-test.true, c.if-raw-lt-BLOCK.false))
-    (sym c.is_ordinary_block.ensures ∙ c.if-is_ordinary_block.false)
+    (sym c.is_ordinary_block.ensures ∙ c.if-not-is_ordinary_block.true)
 
 pub returns : goal.returns
 returns c =

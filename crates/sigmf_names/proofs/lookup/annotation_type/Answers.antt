@@ -1,50 +1,23 @@
+-- The code's types are those of the list of specs/: computed.
 use native.Mathlib.Omega.{arith}
--- The code's types are those of the list of specs/, field by field: computed.
-use Rattle.json_blocks.proofs.MatchLaws.{Apart}
-use Rattle.sigmf_names.specs.Names.{annotation_fields, core_at, type_at}
-use Rattle.sigmf_names.proofs.NameLaws.{type_over}
+use borrow.Author.Rules.{rules}
+use Rattle.sigmf_values.specs.declared.FieldType.TheVariants as T
+use Rattle.sigmf_names.specs.Names.{annotation_fields}
+use Rattle.sigmf_names.proofs.NameLaws.{Typed, typed, type_rest}
 use Rattle.sigmf_names.proofs.lookup.annotation_type.Goals as goal
 
-pub returns-in-0 : goal.returns-in-0
-unfolding annotation_fields core_at type_at
-returns-in-0 c = rw c.in-0.is
+pub returns-in-0-to-1 : goal.returns-in-0-to-1
+unfolding annotation_fields Typed
+returns-in-0-to-1 c = typed T.Uint 0 2 annotation_fields c.args.i (search rules) (omega arith) (omega arith)
 
-pub returns-in-1 : goal.returns-in-1
-unfolding annotation_fields core_at type_at
-returns-in-1 c = rw c.in-1.is
+pub returns-in-2-to-5 : goal.returns-in-2-to-5
+unfolding annotation_fields Typed
+returns-in-2-to-5 c = typed T.Text 2 4 annotation_fields c.args.i (search rules) (omega arith) (omega arith)
 
-pub returns-in-2 : goal.returns-in-2
-unfolding annotation_fields core_at type_at
-returns-in-2 c = rw c.in-2.is
-
-pub returns-in-3 : goal.returns-in-3
-unfolding annotation_fields core_at type_at
-returns-in-3 c = rw c.in-3.is
-
-pub returns-in-4 : goal.returns-in-4
-unfolding annotation_fields core_at type_at
-returns-in-4 c = rw c.in-4.is
-
-pub returns-in-5 : goal.returns-in-5
-unfolding annotation_fields core_at type_at
-returns-in-5 c = rw c.in-5.is
-
-pub returns-in-6 : goal.returns-in-6
-unfolding annotation_fields core_at type_at
-returns-in-6 c = rw c.in-6.is
-
-pub returns-in-7 : goal.returns-in-7
-unfolding annotation_fields core_at type_at
-returns-in-7 c = rw c.in-7.is
-
-pub returns-in-8 : goal.returns-in-8
-unfolding annotation_fields core_at type_at
-returns-in-8 c = rw c.in-8.is
-
-pub returns-in-9 : goal.returns-in-9
-unfolding annotation_fields core_at type_at
-returns-in-9 c = rw c.in-9.is
+pub returns-in-6-to-7 : goal.returns-in-6-to-7
+unfolding annotation_fields Typed
+returns-in-6-to-7 c = typed T.Double 6 2 annotation_fields c.args.i (search rules) (omega arith) (omega arith)
 
 pub returns-in_default : goal.returns-in_default
-unfolding annotation_fields Apart
-returns-in_default c = type_over annotation_fields c.args.i (omega arith)
+unfolding annotation_fields Typed
+returns-in_default c = type_rest annotation_fields 8 2 c.args.i (search rules) (search rules) (omega arith)

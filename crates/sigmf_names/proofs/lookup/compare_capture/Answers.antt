@@ -3,18 +3,12 @@ use mathlib.Core.Path.{refl, sym, ◌∙◌}
 use Rattle.sigmf_names.specs.Names.{capture_fields}
 use Rattle.sigmf_names.specs.Lookup.{names_of_length}
 use Rattle.sigmf_names.specs.LookupCode.{one_more}
-use Rattle.sigmf_names.proofs.NameLaws.{then, count_more, place_from, by_length, one_of, NoneOf, none_compared}
+use Rattle.sigmf_names.proofs.NameLaws.{then, place_from, by_length, one_of, NoneOf, none_compared}
 use Rattle.json_blocks.specs.Lists.{all}
 use mathlib.Core.List.{[], ◌∷◌}
 use Rattle.json_blocks.specs.TextBytes.{ascii}
 use Rattle.json_names.specs.Same.{same}
 use Rattle.sigmf_names.proofs.lookup.compare_capture.Goals as goal
-
-pub compare-r-requires-in-17 : goal.compare-r-requires-in-17
-compare-r-requires-in-17 c = omega (arith, count_more _ _ _ c.compare-r.ensures)
-
-pub compare-requires-in-17 : goal.compare-requires-in-17
-compare-requires-in-17 c = omega (arith, count_more _ _ _ c.compare-r.ensures, count_more _ _ _ c.compare-r-in-17.ensures)
 
 pub returns-in-13 : goal.returns-in-13
 unfolding capture_fields one_more place_from names_of_length

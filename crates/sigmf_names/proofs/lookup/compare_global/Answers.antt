@@ -3,42 +3,12 @@ use mathlib.Core.Path.{refl, sym, ◌∙◌}
 use Rattle.sigmf_names.specs.Names.{global_fields}
 use Rattle.sigmf_names.specs.Lookup.{names_of_length}
 use Rattle.sigmf_names.specs.LookupCode.{one_more}
-use Rattle.sigmf_names.proofs.NameLaws.{then, count_more, place_from, by_length, one_of, NoneOf, none_compared}
+use Rattle.sigmf_names.proofs.NameLaws.{then, place_from, by_length, one_of, NoneOf, none_compared}
 use Rattle.json_blocks.specs.Lists.{all}
 use mathlib.Core.List.{[], ◌∷◌}
 use Rattle.json_blocks.specs.TextBytes.{ascii}
 use Rattle.json_names.specs.Same.{same}
 use Rattle.sigmf_names.proofs.lookup.compare_global.Goals as goal
-
-pub compare-r-requires-in-11 : goal.compare-r-requires-in-11
-compare-r-requires-in-11 c = omega (arith, count_more _ _ _ c.compare-r.ensures)
-
-pub compare-requires-in-11 : goal.compare-requires-in-11
-compare-requires-in-11 c = omega (arith, count_more _ _ _ c.compare-r.ensures, count_more _ _ _ c.compare-r-in-11.ensures)
-
-pub compare-r-requires-in-12-2 : goal.compare-r-requires-in-12-2
-compare-r-requires-in-12-2 c = omega (arith, count_more _ _ _ c.compare-r-in-12.ensures)
-
-pub compare-requires-in-12 : goal.compare-requires-in-12
-compare-requires-in-12 c = omega (arith, count_more _ _ _ c.compare-r-in-12.ensures, count_more _ _ _ c.compare-r-in-12-2.ensures)
-
-pub compare-r-requires-in-13-2 : goal.compare-r-requires-in-13-2
-compare-r-requires-in-13-2 c = omega (arith, count_more _ _ _ c.compare-r-in-13.ensures)
-
-pub compare-r-requires-in-13-3 : goal.compare-r-requires-in-13-3
-compare-r-requires-in-13-3 c = omega (arith, count_more _ _ _ c.compare-r-in-13.ensures, count_more _ _ _ c.compare-r-in-13-2.ensures)
-
-pub compare-requires-in-13 : goal.compare-requires-in-13
-compare-requires-in-13 c = omega (arith, count_more _ _ _ c.compare-r-in-13.ensures, count_more _ _ _ c.compare-r-in-13-2.ensures, count_more _ _ _ c.compare-r-in-13-3.ensures)
-
-pub compare-requires-in-15 : goal.compare-requires-in-15
-compare-requires-in-15 c = omega (arith, count_more _ _ _ c.compare-r-in-15.ensures)
-
-pub compare-r-requires-in-16-2 : goal.compare-r-requires-in-16-2
-compare-r-requires-in-16-2 c = omega (arith, count_more _ _ _ c.compare-r-in-16.ensures)
-
-pub compare-requires-in-16 : goal.compare-requires-in-16
-compare-requires-in-16 c = omega (arith, count_more _ _ _ c.compare-r-in-16.ensures, count_more _ _ _ c.compare-r-in-16-2.ensures)
 
 pub returns-in-7 : goal.returns-in-7
 unfolding global_fields one_more place_from names_of_length

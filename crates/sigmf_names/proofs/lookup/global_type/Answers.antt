@@ -1,77 +1,22 @@
+-- The code's types are those of the list of specs/: computed.
 use native.Mathlib.Omega.{arith}
--- The code's types are those of the list of specs/, field by field: computed.
-use Rattle.json_blocks.proofs.MatchLaws.{Apart}
+use borrow.Author.Rules.{rules}
+use Rattle.sigmf_values.specs.declared.FieldType.TheVariants as T
 use Rattle.sigmf_names.specs.Names.{global_fields, core_at, type_at}
-use Rattle.sigmf_names.proofs.NameLaws.{type_over}
+use Rattle.sigmf_names.proofs.NameLaws.{Typed, typed, type_over}
 use Rattle.sigmf_names.proofs.lookup.global_type.Goals as goal
 
-pub returns-in-0 : goal.returns-in-0
-unfolding global_fields core_at type_at
-returns-in-0 c = rw c.in-0.is
+pub returns-in-0-to-11 : goal.returns-in-0-to-11
+unfolding global_fields Typed
+returns-in-0-to-11 c = typed T.Text 0 12 global_fields c.args.i (search rules) (omega arith) (omega arith)
 
-pub returns-in-1 : goal.returns-in-1
-unfolding global_fields core_at type_at
-returns-in-1 c = rw c.in-1.is
+pub returns-in-12-to-14 : goal.returns-in-12-to-14
+unfolding global_fields Typed
+returns-in-12-to-14 c = typed T.Uint 12 3 global_fields c.args.i (search rules) (omega arith) (omega arith)
 
-pub returns-in-2 : goal.returns-in-2
-unfolding global_fields core_at type_at
-returns-in-2 c = rw c.in-2.is
-
-pub returns-in-3 : goal.returns-in-3
-unfolding global_fields core_at type_at
-returns-in-3 c = rw c.in-3.is
-
-pub returns-in-4 : goal.returns-in-4
-unfolding global_fields core_at type_at
-returns-in-4 c = rw c.in-4.is
-
-pub returns-in-5 : goal.returns-in-5
-unfolding global_fields core_at type_at
-returns-in-5 c = rw c.in-5.is
-
-pub returns-in-6 : goal.returns-in-6
-unfolding global_fields core_at type_at
-returns-in-6 c = rw c.in-6.is
-
-pub returns-in-7 : goal.returns-in-7
-unfolding global_fields core_at type_at
-returns-in-7 c = rw c.in-7.is
-
-pub returns-in-8 : goal.returns-in-8
-unfolding global_fields core_at type_at
-returns-in-8 c = rw c.in-8.is
-
-pub returns-in-9 : goal.returns-in-9
-unfolding global_fields core_at type_at
-returns-in-9 c = rw c.in-9.is
-
-pub returns-in-10 : goal.returns-in-10
-unfolding global_fields core_at type_at
-returns-in-10 c = rw c.in-10.is
-
-pub returns-in-11 : goal.returns-in-11
-unfolding global_fields core_at type_at
-returns-in-11 c = rw c.in-11.is
-
-pub returns-in-12 : goal.returns-in-12
-unfolding global_fields core_at type_at
-returns-in-12 c = rw c.in-12.is
-
-pub returns-in-13 : goal.returns-in-13
-unfolding global_fields core_at type_at
-returns-in-13 c = rw c.in-13.is
-
-pub returns-in-14 : goal.returns-in-14
-unfolding global_fields core_at type_at
-returns-in-14 c = rw c.in-14.is
-
-pub returns-in-15 : goal.returns-in-15
-unfolding global_fields core_at type_at
-returns-in-15 c = rw c.in-15.is
-
-pub returns-in-16 : goal.returns-in-16
-unfolding global_fields core_at type_at
-returns-in-16 c = rw c.in-16.is
+pub returns-in-15-to-16 : goal.returns-in-15-to-16
+unfolding global_fields Typed
+returns-in-15-to-16 c = typed T.Double 15 2 global_fields c.args.i (search rules) (omega arith) (omega arith)
 
 pub returns-in-17 : goal.returns-in-17
 unfolding global_fields core_at type_at
@@ -86,5 +31,5 @@ unfolding global_fields core_at type_at
 returns-in-19 c = rw c.in-19.is
 
 pub returns-in_default : goal.returns-in_default
-unfolding global_fields Apart
+unfolding global_fields
 returns-in_default c = type_over global_fields c.args.i (omega arith)

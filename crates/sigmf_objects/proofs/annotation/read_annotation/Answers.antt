@@ -2,7 +2,6 @@ use native.Mathlib.Omega.{arith}
 use mathlib.Core.Path.{refl}
 use Rattle.sigmf_objects.proofs.ObjectLaws.{clear_zeros, within_at, annotation_is}
 use Rattle.sigmf_names.specs.Names.{annotation_fields}
-use borrow.Author.Rules.{rules}
 use Rattle.sigmf_objects.proofs.annotation.read_annotation.Goals as goal
 
 pub find_fields-w-requires : goal.find_fields-w-requires

@@ -1,7 +1,6 @@
 use mathlib.Core.Path.{refl}
 use Rattle.sigmf_objects.proofs.ObjectLaws.{clear_zeros, capture_moment, capture_is}
 use Rattle.sigmf_names.specs.Names.{capture_fields}
-use borrow.Author.Rules.{rules}
 use Rattle.sigmf_objects.proofs.capture.read_capture.Goals as goal
 
 pub find_fields-w-requires : goal.find_fields-w-requires

@@ -2,7 +2,6 @@ use Rattle.sigmf_objects.proofs.GlobalLaws.{datatype_length, globals_are}
 use Rattle.json_names.specs.Same.{same}
 use Rattle.sigmf_texts.specs.Lookup.{index_in}
 use Rattle.sigmf_names.specs.Names.{global_fields}
-use borrow.Author.Rules.{rules}
 use Rattle.sigmf_objects.proofs.global.globals_at.Goals as goal
 
 pub code_at-requires : goal.code_at-requires

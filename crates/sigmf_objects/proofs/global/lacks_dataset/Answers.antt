@@ -1,17 +1,17 @@
 use mathlib.Core.Path.{sym, ◌∙◌}
-use Rattle.sigmf_objects.proofs.GlobalLaws.{lacks_none, lacks_true, lacks_alone, lacks_beside}
+use Rattle.sigmf_objects.proofs.GlobalLaws.{lacks_none, lacks_true, lacks_other}
 use Rattle.sigmf_objects.proofs.ValueLaws.{part_sized}
-use borrow.Author.Rules.{rules}
 use Rattle.sigmf_objects.proofs.global.lacks_dataset.Goals as goal
 
-pub returns-then-only-eq0 : goal.returns-then-only-eq0
-returns-then-only-eq0 c = lacks_none c.args.s.now c.args.only c.args.dataset c.if-only-eq0.true
-
 pub returns-then-is_true : goal.returns-then-is_true
-returns-then-is_true c = lacks_true c.args.s.now c.args.only c.args.dataset c.if-only-eq0.false _ (c.sized_part-part.ensures ∙ part_sized c.args.s.now c.args.only c.args.n c.if-only-eq0.false c.requires) (sym c.is_true.ensures ∙ c.if-is_true.true)
+returns-then-is_true c =
+    let part = c.sized_part.ensures ∙ part_sized c.args.s.now c.args.only c.args.n c.if-only-ne0.true c.requires in
+    c.if-is_true.true ∙ lacks_true c.args.s.now c.args.only c.args.dataset c.if-only-ne0.true _ part (sym c.is_true.ensures ∙ c.if-is_true.true)
 
-pub returns-then-dataset-eq0 : goal.returns-then-dataset-eq0
-returns-then-dataset-eq0 c = lacks_alone c.args.s.now c.args.only c.args.dataset c.if-only-eq0.false _ (c.sized_part-part.ensures ∙ part_sized c.args.s.now c.args.only c.args.n c.if-only-eq0.false c.requires) (sym c.is_true.ensures ∙ c.if-is_true.false) c.if-dataset-eq0.true
+pub returns-else-is_true : goal.returns-else-is_true
+returns-else-is_true c =
+    let part = c.sized_part.ensures ∙ part_sized c.args.s.now c.args.only c.args.n c.if-only-ne0.true c.requires in
+    lacks_other c.args.s.now c.args.only c.args.dataset c.if-only-ne0.true _ part (sym c.is_true.ensures ∙ c.if-is_true.false)
 
-pub returns : goal.returns
-returns c = lacks_beside c.args.s.now c.args.only c.args.dataset c.if-only-eq0.false _ (c.sized_part-part.ensures ∙ part_sized c.args.s.now c.args.only c.args.n c.if-only-eq0.false c.requires) (sym c.is_true.ensures ∙ c.if-is_true.false) c.if-dataset-eq0.false
+pub returns-else-only-ne0 : goal.returns-else-only-ne0
+returns-else-only-ne0 c = lacks_none c.args.s.now c.args.only c.args.dataset c.if-only-ne0.false

@@ -2,7 +2,6 @@ use Rattle.sigmf_objects.proofs.GlobalLaws.{version_length, only_length, places_
 use Rattle.json_names.specs.Same.{same}
 use Rattle.sigmf_texts.specs.Lookup.{index_in}
 use Rattle.sigmf_names.specs.Names.{global_fields}
-use borrow.Author.Rules.{rules}
 use Rattle.sigmf_objects.proofs.global.places_low.Goals as goal
 
 pub first_low-first-requires : goal.first_low-first-requires

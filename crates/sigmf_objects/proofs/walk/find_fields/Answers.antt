@@ -1,9 +1,6 @@
-use borrow.Author.Rules.{rules}
 use native.Mathlib.Omega.{arith}
-use lib.ListN.{length}
-use Prim.Native.Nat.{◌-◌}
 use mathlib.Core.Path.{refl, sym, ap, ◌∙◌}
-use Rattle.sigmf_objects.proofs.WalkLaws.{core_most, Walking, walk_begin, walk_on, walk_low_lem, walk_close, walk_noted, walk_measured, step_past, number_inside, size_inside, number_is, close_past, low_past, noted_past, measured_past, within_clear}
+use Rattle.sigmf_objects.proofs.WalkLaws.{core_most, walk_begin, walk_on, walk_low_lem, walk_close, walk_noted, walk_measured, step_past, number_inside, size_inside, number_is, close_past, low_past, noted_past, measured_past, within_clear}
 use Rattle.sigmf_names.specs.declared.NameLookup.{NameLookup}
 use Rattle.sigmf_names.specs.Names.{core_of}
 use Rattle.refusals.specs.Refusals.{least}
@@ -18,32 +15,26 @@ returns-then-s-at c = record { low = low_past c.args.s.now c.args.at c.if-s-at.t
 pub loop-m-init : goal.loop-m-init
 loop-m-init c = walk_begin c.args.s.now (core_of c.args.kind) _ _ _ c.requires.clear c.requires.clear_2 c.requires.places_len c.requires.sizes_len
 
-pub shape_of-places-in_default : goal.shape_of-places-in_default
-shape_of-places-in_default c = c.loop-m.invariant.slots ∙ sym c.requires.places_len
+pub returns : goal.returns
+returns c = record { low = walk_low_lem c.args.s.now (core_of c.args.kind) _ c.loop-m.j c.loop-m.low c.loop-m.places c.loop-m.sizes c.loop-m.invariant (sym c.next_member.ensures ∙ c.in_default.is) c.args.at c.if-s-at.false c.skip_indent-j.ensures; close = walk_close c.args.s.now (core_of c.args.kind) _ c.loop-m.j c.loop-m.low c.loop-m.places c.loop-m.sizes c.loop-m.invariant (sym c.next_member.ensures ∙ c.in_default.is) c.args.at c.if-s-at.false c.skip_indent-j.ensures; noted = walk_noted c.args.s.now (core_of c.args.kind) _ c.loop-m.j c.loop-m.low c.loop-m.places c.loop-m.sizes c.loop-m.invariant (sym c.next_member.ensures ∙ c.in_default.is) c.args.at c.if-s-at.false c.skip_indent-j.ensures; measured = walk_measured c.args.s.now (core_of c.args.kind) _ c.loop-m.j c.loop-m.low c.loop-m.places c.loop-m.sizes c.loop-m.invariant (sym c.next_member.ensures ∙ c.in_default.is) c.args.at c.if-s-at.false c.skip_indent-j.ensures; inside = c.loop-m.invariant.within; places = c.loop-m.invariant.slots ∙ sym c.requires.places_len; sizes = c.loop-m.invariant.size_slots ∙ sym c.requires.sizes_len }
 
-pub shape_of-sizes-in_default : goal.shape_of-sizes-in_default
-shape_of-sizes-in_default c = c.loop-m.invariant.size_slots ∙ sym c.requires.sizes_len
-
-pub returns-in_default : goal.returns-in_default
-returns-in_default c = record { low = walk_low_lem c.args.s.now (core_of c.args.kind) _ c.loop-m.j c.loop-m.low c.loop-m.places c.loop-m.sizes c.loop-m.invariant (sym c.next_member-g.ensures ∙ c.in_default.is) c.args.at c.if-s-at.false c.skip_indent-c.ensures; close = walk_close c.args.s.now (core_of c.args.kind) _ c.loop-m.j c.loop-m.low c.loop-m.places c.loop-m.sizes c.loop-m.invariant (sym c.next_member-g.ensures ∙ c.in_default.is) c.args.at c.if-s-at.false c.skip_indent-c.ensures; noted = walk_noted c.args.s.now (core_of c.args.kind) _ c.loop-m.j c.loop-m.low c.loop-m.places c.loop-m.sizes c.loop-m.invariant (sym c.next_member-g.ensures ∙ c.in_default.is) c.args.at c.if-s-at.false c.skip_indent-c.ensures; measured = walk_measured c.args.s.now (core_of c.args.kind) _ c.loop-m.j c.loop-m.low c.loop-m.places c.loop-m.sizes c.loop-m.invariant (sym c.next_member-g.ensures ∙ c.in_default.is) c.args.at c.if-s-at.false c.skip_indent-c.ensures; inside = c.loop-m.invariant.within; places = c.loop-m.invariant.slots ∙ sym c.requires.places_len; sizes = c.loop-m.invariant.size_slots ∙ sym c.requires.sizes_len }
-
-pub member_sized-l-requires : goal.member_sized-l-requires
-member_sized-l-requires c = record { i_value = number_is c.args.s.now (core_of c.args.kind) _ c.loop-m.j c.loop-m.low c.loop-m.places c.loop-m.sizes c.loop-m.invariant _ _ (sym c.next_member-g.ensures ∙ c.in-Found.is) _ _ c.part_of-raw.ensures.part (ap (λ (r : NameLookup). r.number) c.look_up-found.ensures); known_value = omega (arith, c.requires.places_len) }
+pub member_sized-sized-requires : goal.member_sized-sized-requires
+member_sized-sized-requires c = record { i_value = number_is c.args.s.now (core_of c.args.kind) _ c.loop-m.j c.loop-m.low c.loop-m.places c.loop-m.sizes c.loop-m.invariant _ _ (sym c.next_member.ensures ∙ c.in-Some.is) _ _ c.part_of.ensures.part (ap (λ (r : NameLookup). r.number) c.look_up-i.ensures); known_value = omega (arith, c.requires.places_len) }
 
 pub offset_bounds-places-i : goal.offset_bounds-places-i
-offset_bounds-places-i c = omega (arith, c.loop-m.invariant.slots, core_most c.args.kind, number_inside c.args.s.now (core_of c.args.kind) _ c.loop-m.j c.loop-m.low c.loop-m.places c.loop-m.sizes c.loop-m.invariant _ _ (sym c.next_member-g.ensures ∙ c.in-Found.is) _ _ c.part_of-raw.ensures.part (ap (λ (r : NameLookup). r.number) c.look_up-found.ensures))
+offset_bounds-places-i c = omega (arith, c.loop-m.invariant.slots, core_most c.args.kind, number_inside c.args.s.now (core_of c.args.kind) _ c.loop-m.j c.loop-m.low c.loop-m.places c.loop-m.sizes c.loop-m.invariant _ _ (sym c.next_member.ensures ∙ c.in-Some.is) _ _ c.part_of.ensures.part (ap (λ (r : NameLookup). r.number) c.look_up-i.ensures))
 
 pub bounds-places-i : goal.bounds-places-i
-bounds-places-i c = number_inside c.args.s.now (core_of c.args.kind) _ c.loop-m.j c.loop-m.low c.loop-m.places c.loop-m.sizes c.loop-m.invariant _ _ (sym c.next_member-g.ensures ∙ c.in-Found.is) _ _ c.part_of-raw.ensures.part (ap (λ (r : NameLookup). r.number) c.look_up-found.ensures)
+bounds-places-i c = number_inside c.args.s.now (core_of c.args.kind) _ c.loop-m.j c.loop-m.low c.loop-m.places c.loop-m.sizes c.loop-m.invariant _ _ (sym c.next_member.ensures ∙ c.in-Some.is) _ _ c.part_of.ensures.part (ap (λ (r : NameLookup). r.number) c.look_up-i.ensures)
 
 pub offset_bounds-sizes-i : goal.offset_bounds-sizes-i
-offset_bounds-sizes-i c = omega (arith, c.loop-m.invariant.size_slots, core_most c.args.kind, size_inside c.args.s.now (core_of c.args.kind) _ c.loop-m.j c.loop-m.low c.loop-m.places c.loop-m.sizes c.loop-m.invariant _ _ (sym c.next_member-g.ensures ∙ c.in-Found.is) _ _ c.part_of-raw.ensures.part (ap (λ (r : NameLookup). r.number) c.look_up-found.ensures))
+offset_bounds-sizes-i c = omega (arith, c.loop-m.invariant.size_slots, core_most c.args.kind, size_inside c.args.s.now (core_of c.args.kind) _ c.loop-m.j c.loop-m.low c.loop-m.places c.loop-m.sizes c.loop-m.invariant _ _ (sym c.next_member.ensures ∙ c.in-Some.is) _ _ c.part_of.ensures.part (ap (λ (r : NameLookup). r.number) c.look_up-i.ensures))
 
 pub bounds-sizes-i : goal.bounds-sizes-i
-bounds-sizes-i c = size_inside c.args.s.now (core_of c.args.kind) _ c.loop-m.j c.loop-m.low c.loop-m.places c.loop-m.sizes c.loop-m.invariant _ _ (sym c.next_member-g.ensures ∙ c.in-Found.is) _ _ c.part_of-raw.ensures.part (ap (λ (r : NameLookup). r.number) c.look_up-found.ensures)
+bounds-sizes-i c = size_inside c.args.s.now (core_of c.args.kind) _ c.loop-m.j c.loop-m.low c.loop-m.places c.loop-m.sizes c.loop-m.invariant _ _ (sym c.next_member.ensures ∙ c.in-Some.is) _ _ c.part_of.ensures.part (ap (λ (r : NameLookup). r.number) c.look_up-i.ensures)
 
 pub loop-m-smaller : goal.loop-m-smaller
-loop-m-smaller c = let o = step_past c.args.s.now (core_of c.args.kind) _ c.loop-m.j c.loop-m.low c.loop-m.places c.loop-m.sizes c.loop-m.invariant _ _ (sym c.next_member-g.ensures ∙ c.in-Found.is) in omega arith
+loop-m-smaller c = let o = step_past c.args.s.now (core_of c.args.kind) _ c.loop-m.j c.loop-m.low c.loop-m.places c.loop-m.sizes c.loop-m.invariant _ _ (sym c.next_member.ensures ∙ c.in-Some.is) in omega arith
 
 pub loop-m-preserved : goal.loop-m-preserved
-loop-m-preserved c = walk_on c.args.s.now (core_of c.args.kind) _ c.loop-m.j c.loop-m.low c.loop-m.places c.loop-m.sizes c.loop-m.invariant _ _ (sym c.next_member-g.ensures ∙ c.in-Found.is) _ _ _ (number_is c.args.s.now (core_of c.args.kind) _ c.loop-m.j c.loop-m.low c.loop-m.places c.loop-m.sizes c.loop-m.invariant _ _ (sym c.next_member-g.ensures ∙ c.in-Found.is) _ _ c.part_of-raw.ensures.part (ap (λ (r : NameLookup). r.number) c.look_up-found.ensures)) (c.least-low.ensures ∙ ap (least c.loop-m.low) c.member_sized-l.ensures.low) (λ h. c.member_sized-l.ensures.size (omega (arith, h, c.requires.places_len)))
+loop-m-preserved c = walk_on c.args.s.now (core_of c.args.kind) _ c.loop-m.j c.loop-m.low c.loop-m.places c.loop-m.sizes c.loop-m.invariant _ _ (sym c.next_member.ensures ∙ c.in-Some.is) _ _ _ (number_is c.args.s.now (core_of c.args.kind) _ c.loop-m.j c.loop-m.low c.loop-m.places c.loop-m.sizes c.loop-m.invariant _ _ (sym c.next_member.ensures ∙ c.in-Some.is) _ _ c.part_of.ensures.part (ap (λ (r : NameLookup). r.number) c.look_up-i.ensures)) (c.least-low.ensures ∙ ap (least c.loop-m.low) c.member_sized-sized.ensures.low) (λ h. c.member_sized-sized.ensures.size (omega (arith, h, c.requires.places_len)))

@@ -1,13 +1,15 @@
-use native.Mathlib.Omega.{arith}
-use Rattle.sigmf_objects.proofs.WalkLaws.{member_bad, member_unknown, member_known, member_size}
-use borrow.Author.Rules.{rules}
+use mathlib.Core.Path.{sym, ◌∙◌}
+use Rattle.sigmf_objects.proofs.WalkLaws.{member_bad, member_unknown, member_known}
 use Rattle.sigmf_objects.proofs.walk.member_sized.Goals as goal
 
-pub returns-in_default : goal.returns-in_default
-returns-in_default c = record { low = member_bad c.args.kind c.args.s.now c.args.m c.args.i c.args.known c.requires.i_value c.requires.known_value _ c.part_of-raw.ensures.part _ c.name_form-f.ensures c.in_default.is; size = λ h. absurd (omega (arith, h, c.if-known-i.true)) }
+pub returns-then-is_some-clause-low : goal.returns-then-is_some-clause-low
+returns-then-is_some-clause-low c =
+    member_unknown c.args.kind c.args.s.now c.args.m c.args.i c.args.known c.requires.i_value c.requires.known_value _ c.part_of.ensures.part _ c.name_form-form.ensures (sym c.is_some.ensures ∙ c.if-is_some.true) c.if-known-i.true
 
-pub returns-then-known-i : goal.returns-then-known-i
-returns-then-known-i c = record { low = member_unknown c.args.kind c.args.s.now c.args.m c.args.i c.args.known c.requires.i_value c.requires.known_value _ c.part_of-raw.ensures.part _ c.name_form-f.ensures _ c.in-After.is c.if-known-i.true; size = λ h. absurd (omega (arith, h, c.if-known-i.true)) }
+pub returns-else-is_some-clause-low : goal.returns-else-is_some-clause-low
+returns-else-is_some-clause-low c =
+    member_bad c.args.kind c.args.s.now c.args.m c.args.i c.args.known c.requires.i_value c.requires.known_value _ c.part_of.ensures.part _ c.name_form-form.ensures (sym c.is_some.ensures ∙ c.if-is_some.false)
 
-pub returns : goal.returns
-returns c = record { low = member_known c.args.kind c.args.s.now c.args.m c.args.i c.args.known c.requires.i_value c.requires.known_value c.if-known-i.false _ c.field_type-wanted.ensures _ c.part_of-value.ensures.part _ c.value_sized.ensures.low; size = λ h. member_size c.args.kind c.args.s.now c.args.m c.args.i c.args.known c.requires.i_value c.requires.known_value c.if-known-i.false _ c.field_type-wanted.ensures _ c.part_of-value.ensures.part _ c.value_sized.ensures.size }
+pub returns-clause-low : goal.returns-clause-low
+returns-clause-low c =
+    member_known c.args.kind c.args.s.now c.args.m c.args.i c.args.known c.requires.i_value c.requires.known_value c.if-known-i.false _ c.field_type.ensures _ c.part_of-2.ensures.part _ c.value_sized.ensures.low

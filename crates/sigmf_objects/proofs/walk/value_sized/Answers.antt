@@ -26,11 +26,23 @@ other_size T.Any p h = refl
 pub returns-then-has_type : goal.returns-then-has_type
 returns-then-has_type c = record { low = part_typed _ _ _ c.has_type.ensures c.if-has_type.true; size = other_size c.args.wanted c.args.part.now c.in_default.not-Uint }
 
-pub returns-in_default : goal.returns-in_default
-returns-in_default c = record { low = part_mistyped _ _ _ c.has_type.ensures c.if-has_type.false; size = other_size c.args.wanted c.args.part.now c.in_default.not-Uint }
+pub returns-else-has_type : goal.returns-else-has_type
+returns-else-has_type c = record { low = part_mistyped _ _ _ c.has_type.ensures c.if-has_type.false; size = other_size c.args.wanted c.args.part.now c.in_default.not-Uint }
 
-pub returns-in_default-u : goal.returns-in_default-u
-returns-in_default-u c = let t = c.args.wanted in let p = c.args.part.now in let e = c.in_default-u.is in let et = c.in-Uint.is in let eu = uint_of_lem p c.uint-u.result c.uint-u.ensures in record { low = ap (λ x. cond (is_value x) 0 7) (sym e) ∙ uint_low t p et _ eu; size = ap uint_number (sym e) ∙ uint_size t p et _ eu }
+pub returns-in-Some : goal.returns-in-Some
+returns-in-Some c =
+    let p = c.args.part.now in
+    let u = uint_of_lem p c.uint.result c.uint.ensures in
+    record {
+      low = ap (λ x. cond (is_value x) 0 7) (sym c.in-Some.is) ∙ uint_low c.args.wanted p c.in-Uint.is _ u;
+      size = ap uint_number (sym c.in-Some.is) ∙ uint_size c.args.wanted p c.in-Uint.is _ u;
+    }
 
-pub returns : goal.returns
-returns c = let t = c.args.wanted in let p = c.args.part.now in let e = c.in-Value.is in let et = c.in-Uint.is in let eu = uint_of_lem p c.uint-u.result c.uint-u.ensures in record { low = ap (λ x. cond (is_value x) 0 7) (sym e) ∙ uint_low t p et _ eu; size = ap uint_number (sym e) ∙ uint_size t p et _ eu }
+pub returns-in-None : goal.returns-in-None
+returns-in-None c =
+    let p = c.args.part.now in
+    let u = uint_of_lem p c.uint.result c.uint.ensures in
+    record {
+      low = ap (λ x. cond (is_value x) 0 7) (sym c.in-None.is) ∙ uint_low c.args.wanted p c.in-Uint.is _ u;
+      size = ap uint_number (sym c.in-None.is) ∙ uint_size c.args.wanted p c.in-Uint.is _ u;
+    }

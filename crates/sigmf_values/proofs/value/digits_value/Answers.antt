@@ -1,33 +1,32 @@
 use native.Mathlib.Omega.{arith}
-use Prim.Native.Nat.{◌-◌}
-use mathlib.Core.Path.{refl, sym, ◌∙◌}
+use mathlib.Core.Path.{sym, ◌∙◌}
 use Rattle.json_blocks.proofs.ByteLaws.{within_is}
 use Rattle.sigmf_values.proofs.ValueLaws.{digits_end, digits_not, digits_on, digits_over}
 use Rattle.sigmf_values.proofs.value.digits_value.Goals as goal
 
-pub loop-i-init : goal.loop-i-init
-loop-i-init c = (omega arith, refl)
+pub returns-then-not-is_within : goal.returns-then-not-is_within
+returns-then-not-is_within c = digits_not _ c.loop-b.n c.loop-b.b-index c.loop-b-test.true (sym c.is_within.ensures ∙ c.if-not-is_within.true) ∙ c.loop-b.invariant.1
 
-pub overflow_sub-d : goal.overflow_sub-d
-overflow_sub-d c = let h = (within_is _ _ _ (sym c.is_within.ensures ∙ c.if-is_within.true)).0 in omega arith
+pub returns-in_err-checked_mul : goal.returns-in_err-checked_mul
+returns-in_err-checked_mul c =
+    c.from_residual.ensures
+    ∙ digits_over _ c.loop-b.n c.loop-b.b-index c.loop-b-test.true (omega (arith, c.in_err-checked_mul.ensures)) (sym c.is_within.ensures ∙ c.if-not-is_within.false)
+    ∙ c.loop-b.invariant.1
 
-pub overflow_cast-d : goal.overflow_cast-d
-overflow_cast-d c = omega (arith, c.shared_slice_known-1.given c.loop-i.i)
+pub overflow_sub-b : goal.overflow_sub-b
+overflow_sub-b c = (within_is _ _ _ (sym c.is_within.ensures ∙ c.if-not-is_within.false)).0
 
-pub overflow_sub-d-then-is_within : goal.overflow_sub-d-then-is_within
-overflow_sub-d-then-is_within c = let h = (within_is _ _ _ (sym c.is_within.ensures ∙ c.if-is_within.true)).1 in omega arith
+pub returns-in_err-n : goal.returns-in_err-n
+returns-in_err-n c =
+    c.from_residual-in_err-n.ensures
+    ∙ digits_over _ c.loop-b.n c.loop-b.b-index c.loop-b-test.true (omega (arith, c.in_ok-checked_mul.ensures, c.in_err-n.ensures)) (sym c.is_within.ensures ∙ c.if-not-is_within.false)
+    ∙ c.loop-b.invariant.1
 
-pub returns-then-d-n : goal.returns-then-d-n
-returns-then-d-n c = digits_over c.args.part.now c.loop-i.n c.loop-i.i c.loop-i-test.true (let h = within_is _ _ _ (sym c.is_within.ensures ∙ c.if-is_within.true) in omega arith) (sym c.is_within.ensures ∙ c.if-is_within.true) ∙ c.loop-i.invariant.1
-
-pub overflow_add-n : goal.overflow_add-n
-overflow_add-n c = let h = within_is _ _ _ (sym c.is_within.ensures ∙ c.if-is_within.true) in omega arith
-
-pub loop-i-preserved : goal.loop-i-preserved
-loop-i-preserved c = (let h = within_is _ _ _ (sym c.is_within.ensures ∙ c.if-is_within.true) in omega arith, digits_on c.args.part.now c.loop-i.n c.loop-i.i c.loop-i-test.true _ refl (sym c.is_within.ensures ∙ c.if-is_within.true) ∙ c.loop-i.invariant.1)
-
-pub returns-else-is_within : goal.returns-else-is_within
-returns-else-is_within c = digits_not c.args.part.now c.loop-i.n c.loop-i.i c.loop-i-test.true (sym c.is_within.ensures ∙ c.if-is_within.false) ∙ c.loop-i.invariant.1
+pub loop-b-preserved : goal.loop-b-preserved
+loop-b-preserved c = (
+  omega (arith, c.in_ok-checked_mul.ensures, c.in_ok-n.ensures),
+  digits_on _ c.loop-b.n c.loop-b.b-index c.loop-b-test.true _ (omega (arith, c.in_ok-checked_mul.ensures, c.in_ok-n.ensures)) (sym c.is_within.ensures ∙ c.if-not-is_within.false) ∙ c.loop-b.invariant.1,
+)
 
 pub returns : goal.returns
-returns c = digits_end c.args.part.now c.loop-i.n c.loop-i.i c.loop-i-test.false (omega arith) ∙ c.loop-i.invariant.1
+returns c = digits_end _ c.loop-b.n c.loop-b.b-index (omega arith) c.loop-b.invariant.0 ∙ c.loop-b.invariant.1

@@ -1,8 +1,0 @@
-use Rattle.std.proofs.Common.{length, ◌≡◌}
-use Rattle.vectors.proofs.run_cases.Given as goal
-
-abbrev pub invariant-loop-turns : goal.invariant-loop-turns
-invariant-loop-turns l = length l.room ≡ length l.initial.room
-
-abbrev pub decreases-loop-turns : goal.decreases-loop-turns
-decreases-loop-turns l = l.turns
