@@ -69,7 +69,7 @@ fn digit_of(n: u64) -> u8
     b'0' + (n % 10) as u8
 }
 
-// The c digits of a number, written to the front of out from the last to the first, two at a time.
+// The c digits of a number, written to the front of out from the last to the first, two at a time, so that the place is counted by hand.
 fn put_digits(out: &mut [u8], n: u64, c: usize)
     requires { (c ≡ length (digits_of n)) × (c ≤ length out.old) }
     ensures { out.new ≡ written (digits_of n) out.old }

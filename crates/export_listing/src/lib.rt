@@ -10,7 +10,7 @@ ghost use Rattle.table.specs.Rows.{table};
 
 use table::{Place, Summary, Wrote};
 
-// A label: 1 if there is one and 0 if not, and its place and length in the metadata, or why there is none.
+// A label: 1 if there is one and 0 if not, and its place and length in the metadata, or why there is none, in numbers for C.
 #[repr(C)]
 #[derive(Clone, Copy)]
 pub struct Labelled {

@@ -3,7 +3,8 @@
 
 use limits::Limits;
 
-// What may stand next, how far inside a token the text ended, and the brackets that are open.
+// What may stand next, how far inside a token the text ended, and the brackets that are open. Numbers and no enums: a state goes
+// through C by them, and the theorems of specs/Control speak of them.
 #[derive(Clone, Copy)]
 pub struct Control {
     pub place: u64,

@@ -112,6 +112,7 @@ pub fn is_ordinary_block(s: &[u8], i: usize) -> bool
 pub fn skip_blocks<T: ByteTest>(s: &[u8], at: usize) -> usize
     ensures { GoodTo T.holds s.now at result }
 {
+    // An index by hand: no iterator over blocks gives the place where the last good one ends.
     let mut i = at;
     while is_block::<T>(s, i) {
         i += BLOCK;

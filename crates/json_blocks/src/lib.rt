@@ -37,6 +37,7 @@ pub fn is_within(lo: u8, hi: u8, b: u8) -> bool
     lo <= b && b <= hi
 }
 
+// The same of a number: one function for both wants a trait that ties its type to ℕ, and is longer than the two.
 #[tactic(auto, unfolding(crate::specs::TextBytes::within))]
 pub fn code_within(lo: usize, hi: usize, n: usize) -> bool
     ensures { result ≡ within lo hi n }

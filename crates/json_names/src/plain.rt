@@ -47,7 +47,7 @@ fn mix_block(s: &[u8], i: usize, key: u64) -> Option<u64>
     ok.then_some(h)
 }
 
-// Past blocks of plain bytes from a place on, with their key.
+// Past blocks of plain bytes from a place on, with their key. No iterator over blocks gives the place where the last plain one ends.
 fn plain_blocks(s: &[u8], at: usize) -> Run
     ensures { PlainRun s.now at result }
 {
@@ -63,7 +63,7 @@ fn plain_blocks(s: &[u8], at: usize) -> Run
     Run { at: i, key: h }
 }
 
-// Past the plain bytes from a place on, with their key.
+// Past the plain bytes from a place on, with their key. The place may lie past the end, where no rest can be gone over.
 pub(crate) fn plain_run(s: &[u8], at: usize) -> Run
     ensures { PlainRun s.now at result }
 {

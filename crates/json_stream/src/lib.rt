@@ -14,7 +14,7 @@ use json_automaton::{Control, State};
 use json_transitions::{is_whole, run};
 use limits::Limits;
 
-// A refusal, or 0 with the state after a chunk and whether the text is lost: 1, or 0 for open.
+// A refusal, or 0 with the state after a chunk and whether the text is lost: 1, or 0 for open. C gets them, so they are numbers.
 #[repr(C)]
 #[derive(Clone, Copy)]
 pub struct Fed {
@@ -103,7 +103,7 @@ fn is_text(place: u64, token: u64, stack: u64) -> bool
     is_whole(token) && place == Control::AFTER && stack < 2
 }
 
-// After the last chunk: 18 if no chunks lead to the state; 1, 2 or 0 for the text of all chunks.
+// After the last chunk: 18 if no chunks lead to the state; 1, 2 or 0 for the text of all chunks. C gets the number.
 #[tactic(auto, unfolding(refusals::specs::Refusals::lowest))]
 pub fn finish(st: State) -> u64
     ensures { result ≡ finished st }

@@ -53,7 +53,7 @@ fn close_of(stack: u64) -> u8
     if is_object_top(stack) { b'}' } else { b']' }
 }
 
-// Past an opening bracket: kind is 0 for an array, 1 for an object.
+// Past an opening bracket: kind is 0 for an array, 1 for an object, the bit that the stack gets.
 #[tactic(auto, unfolding(json_automaton::specs::Control::push))]
 fn push(stack: u64, kind: u64) -> Control
     requires { kind ≤ 1 }

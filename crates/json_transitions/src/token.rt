@@ -5,7 +5,7 @@ ghost use Rattle.json_automaton.specs.Token.{byte_move, is_move, hex_move, low_m
 use json_blocks::{code_within, is_within};
 use json_characters::{hex_digit, is_short_escape};
 
-// The token cannot take the byte.
+// The token cannot take the byte: a number, as the tokens are (json_automaton's Control).
 pub(crate) const BAD: u64 = 38;
 
 // The tokens that values begin with.

@@ -32,7 +32,8 @@ pub struct Element {
     pub end: usize,
 }
 
-// Past blocks of bytes that are no quotes and no backslashes.
+// Past blocks of bytes that are no quotes and no backslashes. `skip_blocks` does not say that no block reaches past the end, where 0 is
+// such a byte.
 #[tactic(auto, using(json_blocks::proofs::BlockLaws::block_room, json_blocks::proofs::BlockLaws::block_good, crate::proofs::WalkLaws::ordinary_pass))]
 fn skip_ordinary(s: &[u8], at: usize) -> usize
     ensures { skip_string s.now result ≡ skip_string s.now at }
@@ -44,7 +45,7 @@ fn skip_ordinary(s: &[u8], at: usize) -> usize
     i
 }
 
-// Past a string, from past its opening quote.
+// Past a string, from past its opening quote. The place jumps over escapes, so no iterator moves it.
 #[tactic(auto, using(json_grammar::proofs::SkipLaws::quoted_end, json_grammar::proofs::SkipLaws::quoted_close, json_grammar::proofs::SkipLaws::quoted_escape, json_grammar::proofs::SkipLaws::quoted_other))]
 pub(crate) fn skip_string(s: &[u8], at: usize) -> usize
     ensures { result ≡ skip_string s.now at }
@@ -66,7 +67,7 @@ pub(crate) fn is_close(b: u8) -> bool
     matches!(b, b']' | b'}')
 }
 
-// Past the close of an array or object, from past its opening byte.
+// Past the close of an array or object, from past its opening byte. The place jumps over strings, so no iterator moves it.
 #[tactic(auto, using(json_grammar::proofs::SkipLaws::quoted_onward, json_grammar::proofs::SkipLaws::open_end, json_grammar::proofs::SkipLaws::open_string, json_grammar::proofs::SkipLaws::open_opens, json_grammar::proofs::SkipLaws::open_last, json_grammar::proofs::SkipLaws::open_closes, crate::proofs::WalkLaws::open_passes))]
 pub(crate) fn skip_open(s: &[u8], at: usize) -> usize
     ensures { result ≡ skip_open s.now 1 at }

@@ -1,4 +1,4 @@
--- What a judge of one text or value answers, where the code has an enum: a value, or document 01's number of the refusal that it
+-- What a judge of one text or value answers, where the code has an `Option`: a value, or document 01's number of the refusal that it
 -- gives cause for.
 use Rattle.std.proofs.Math.Option.{Option, none, some}
 use Rattle.std.specs.Prelude.{ℕ}

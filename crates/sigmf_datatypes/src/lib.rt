@@ -73,7 +73,7 @@ fn entry_of(code: u64) -> Entry
     }
 }
 
-// The code is one of the list.
+// The code is one of the list. It is the number that C gets in a summary.
 #[tactic(auto, using(crate::proofs::Laws::counted), unfolding(crate::specs::Datatypes::is_listed))]
 pub fn is_listed(code: u64) -> bool
     ensures { result ≡ is_listed code }

@@ -18,7 +18,7 @@ fn is_short_verbatim(raw: &[u8]) -> bool
     raw.iter().all(|b| is_ordinary(*b))
 }
 
-// The same, in blocks: the last one ends with the name.
+// The same, in blocks: the last one ends with the name, and may overlap the one before, so the places are counted by hand.
 pub(crate) fn is_verbatim(raw: &[u8]) -> bool
     ensures { result ≡ all ordinary_byte raw.now }
 {

@@ -30,7 +30,7 @@ pub struct Texts {
     pub label: Place,
 }
 
-// The twelve numbers of a table.
+// The twelve numbers of a table. C gets them, so the refusal and the datatype are numbers here.
 #[repr(C)]
 #[derive(Clone, Copy)]
 pub struct Summary {
@@ -109,7 +109,7 @@ impl AnnotationEntry {
     pub const WIDTH: usize = 5;
 }
 
-// How many pieces or bytes were written, or why none.
+// How many pieces or bytes were written, or why none, in numbers for C.
 #[repr(C)]
 #[derive(Clone, Copy)]
 pub struct Wrote {
@@ -117,7 +117,7 @@ pub struct Wrote {
     pub count: u64,
 }
 
-// Where a sample starts, or why not.
+// Where a sample starts, or why not, in numbers for C.
 #[repr(C)]
 #[derive(Clone, Copy)]
 pub struct Located {

@@ -57,7 +57,7 @@ pub(crate) fn count_captures(t: Summary, caps: &[u64], a: u64, b: u64) -> usize
     c
 }
 
-// How many annotations the cut to samples a to b keeps.
+// How many annotations the cut to samples a to b keeps. A trait of rows with its two impls would be longer than this pair and the next.
 pub(crate) fn count_annotations(t: Summary, notes: &[u64], a: u64, b: u64) -> usize
     ensures { result ≡ length (cut_annotations a b (annotations notes.now t.annotations)) }
 {
