@@ -9,6 +9,16 @@ use crate::is_blank;
 // How many bytes are tested at once.
 const BLOCK: usize = 8;
 
+// Both hold. It stays for callers outside, since docs/PROMISES.md names it; the crates here write `&`.
+pub fn both(a: bool, b: bool) -> bool
+    ensures { result ≡ (a && b) }
+{
+    if a {
+        return b;
+    }
+    false
+}
+
 // A test of a byte.
 pub trait ByteTest {
     ghost holds: { ℕ → Bool };

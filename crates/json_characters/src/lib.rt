@@ -66,22 +66,37 @@ pub(crate) fn three_bytes(start: Cursor, s: &[u8], lo: u8, hi: u8) -> Option<Cur
     two_bytes(c, s, 0x80, 0xBF)
 }
 
-// A character of several bytes in UTF-8, from past its first byte b.
+// A character of several bytes in UTF-8, from past its first byte b. Here and in `character` tests stand in a chain, since a `match` on ranges of
+// bytes runs a sixth more instructions on characters of three bytes.
 #[tactic(auto, unfolding(crate::specs::String::multibyte_at, json_blocks::specs::TextBytes::within))]
 pub(crate) fn multibyte(start: Cursor, s: &[u8], b: u8) -> Option<Cursor>
     ensures { result ≡ multibyte_at b s.now start.at }
 {
-    match b {
-        0xC2..=0xDF => byte_within(start, s, 0x80, 0xBF),
-        0xE0 => two_bytes(start, s, 0xA0, 0xBF),
-        0xE1..=0xEC => two_bytes(start, s, 0x80, 0xBF),
-        0xED => two_bytes(start, s, 0x80, 0x9F),
-        0xEE..=0xEF => two_bytes(start, s, 0x80, 0xBF),
-        0xF0 => three_bytes(start, s, 0x90, 0xBF),
-        0xF1..=0xF3 => three_bytes(start, s, 0x80, 0xBF),
-        0xF4 => three_bytes(start, s, 0x80, 0x8F),
-        _ => None,
+    if is_within(0xC2, 0xDF, b) {
+        return byte_within(start, s, 0x80, 0xBF);
     }
+    if b == 0xE0 {
+        return two_bytes(start, s, 0xA0, 0xBF);
+    }
+    if is_within(0xE1, 0xEC, b) {
+        return two_bytes(start, s, 0x80, 0xBF);
+    }
+    if b == 0xED {
+        return two_bytes(start, s, 0x80, 0x9F);
+    }
+    if is_within(0xEE, 0xEF, b) {
+        return two_bytes(start, s, 0x80, 0xBF);
+    }
+    if b == 0xF0 {
+        return three_bytes(start, s, 0x90, 0xBF);
+    }
+    if is_within(0xF1, 0xF3, b) {
+        return three_bytes(start, s, 0x80, 0xBF);
+    }
+    if b == 0xF4 {
+        return three_bytes(start, s, 0x80, 0x8F);
+    }
+    None
 }
 
 // The hexadecimal digit at a place.
@@ -158,12 +173,17 @@ pub fn character(start: Cursor, s: &[u8]) -> Option<Cursor>
     ensures { result ≡ character_at s.now start.at }
 {
     let at = start.at;
-    match peek(s, at) {
-        0..=0x1F => None,
-        b'\\' => escape(Cursor { at: at + 1 }, s),
-        0x20..=0x7F => Some(Cursor { at: at + 1 }),
-        b => multibyte(Cursor { at: at + 1 }, s, b),
+    let b = peek(s, at);
+    if b < 0x20 {
+        return None;
     }
+    if b == b'\\' {
+        return escape(Cursor { at: at + 1 }, s);
+    }
+    if b < 0x80 {
+        return Some(Cursor { at: at + 1 });
+    }
+    multibyte(Cursor { at: at + 1 }, s, b)
 }
 
 // A string, from past its opening quote.

@@ -38,10 +38,9 @@ keys_apart k l c h f g = sym (same_ne k l (λ e. key_clash e h f g))
 
 -- ---- one of the names kept
 module _ (s places : List ℕ) (base : ℕ) (x : List ℕ) where
-  pub known_more : (k : ℕ) → false ≡ has_name x (names_on s places base k) → false ≡ same x (decoded_from s (get_or places (base + k) 0))
-      → false ≡ has_name x (names_on s places base (k + 1))
+  pub known_on : (k : ℕ) → false ≡ same x (decoded_from s (get_or places (base + k) 0)) → has_name x (names_on s places base k) ≡ has_name x (names_on s places base (k + 1))
   unfolding has_name names_on
-  known_more k e f = rw (add-one k, ← f) e
+  known_on k f = rw (add-one k, ← f) refl
 
   pub known_found : (n k : ℕ) → k < n → true ≡ same x (decoded_from s (get_or places (base + k) 0)) → true ≡ has_name x (names_on s places base n)
   unfolding has_name names_on

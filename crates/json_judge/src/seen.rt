@@ -36,8 +36,9 @@ pub(crate) fn has_key(keys: &[u32], key: u32) -> bool
     found
 }
 
-// The name at a place is among the n that are kept from base on.
-#[tactic(auto, using(crate::proofs::SeenLaws::known_more, crate::proofs::SeenLaws::known_found, crate::proofs::SeenLaws::key_at), unfolding(crate::specs::MemberNames::has_name, crate::specs::Stack::names_on))]
+// The name at a place is among the n that are kept from base on. The last of them is looked at first, so that a name that stands twice in a row
+// is found at once.
+#[tactic(auto, using(crate::proofs::SeenLaws::known_on, crate::proofs::SeenLaws::known_found, crate::proofs::SeenLaws::key_at), unfolding(crate::specs::MemberNames::has_name, crate::specs::Stack::names_on))]
 pub(crate) fn is_among(
     s: &[u8],
     at: usize,
@@ -55,7 +56,7 @@ pub(crate) fn is_among(
     requires keys_agree { KeysAgree s.now places.now keys.now base n }
     ensures { result ≡ has_name (decoded_from s.now at) (names_on s.now places.now base n) }
 {
-    for k in 0..n {
+    for k in (0..n).rev() {
         if same_name(s, at, key, second, places[base + k], keys[base + k]) {
             return true;
         }

@@ -5,9 +5,9 @@ use mathlib.Core.List.{List, [], ◌∷◌, ◌++◌, append_assoc, append-nil}
 use native.Mathlib.Omega.{arith}
 use native.Mathlib.Nat.{zero-add}
 use native.Mathlib.Numerals.{add-one}
-use lib.ListN.{length, take, drop, set, length-append, length-drop, drop_of_length-le}
-use lib.Seq.{append_snoc, set_split, take_all, drop-drop}
-use borrow.Author.Tests.{le-leb}
+use lib.ListN.{length, get_or, take, drop, set, length-append, length-drop, drop_of_length-le}
+use lib.Seq.{append_snoc, set_split, drop-cons, take_all, drop-drop}
+use borrow.Author.Tests.{le-leb, lt-leb}
 use Rattle.table.specs.Memory.{written}
 use Rattle.table.proofs.Filling.{Filling, fill_none, fill_many, fill_room, fill_all}
 use Rattle.output.specs.Put.{put_count, put_front}
@@ -156,6 +156,16 @@ pub put_all : (X m : List ℕ) {out : List ℕ} {r : ℕ} → length X ≤ lengt
 unfolding put_count put_front
 put_all X m h e = (e.0 ∙ rw (le-leb _ _ h), e.1 ∙ rw (le-leb _ _ h))
 
+pub put_some : (X m : List ℕ) {out : List ℕ} {r : ℕ} → length X ≤ length m → (r ≡ length X) × (out ≡ written X m) → (r ≡ put_count X m) × (out ≡ put_front X m)
+unfolding put_count put_front
+put_some X m h e = (e.0 ∙ rw (le-leb _ _ h), e.1 ∙ rw (le-leb _ _ h))
+
+pub put_none : (X m : List ℕ) (n : ℕ) → n ≡ length X → length m < n → (0 ≡ put_count X m) × (m ≡ put_front X m)
+unfolding put_count put_front
+put_none X m n e h =
+    let q : length m < length X = omega arith in
+    (rw (lt-leb _ _ q), rw (lt-leb _ _ q))
+
 -- a part written by such a callee
 pub first_put : {F X : List ℕ} {ps : List (List ℕ)} (m : List ℕ) → Parts F (X ∷ ps) → length F ≤ length m → {out : List ℕ} {r : ℕ} → (r ≡ put_count X m) × (out ≡ put_front X m) → Writes F m out r ps
 first_put {X = X} m P h e = writes_first m P h (put_all X m (first_room m P h) e)
@@ -163,3 +173,27 @@ first_put {X = X} m P h e = writes_first m P h (put_all X m (first_room m P h) e
 module _ {F m out : List ℕ} {p : ℕ} {X : List ℕ} {ps : List (List ℕ)} (S : Writes F m out p (X ∷ ps)) {new : List ℕ} {r : ℕ} (e : (r ≡ put_count X (tail out p)) × (new ≡ put_front X (tail out p))) where
   pub next_put : Writes F m (rejoined out p new) (p + r) ps
   next_put = writes_next S (put_all X (tail out p) (next_room S) e)
+
+-- ---- F byte by byte; it has n
+pub record Copied (F m out : List ℕ) (n i : ℕ) : Type 0 where
+  pub many : n ≡ length F
+  pub state : Writes F m out i (drop i F ∷ [])
+
+pub copy_begin : (F m : List ℕ) (n : ℕ) → n ≡ length F → n ≤ length m → Copied F m m n 0
+copy_begin F m n e h = record { many = e; state = writes_none m (whole_part F) (omega arith) }
+
+module _ (F m out : List ℕ) (n i : ℕ) (S : Copied F m out n i) where
+  next_is : (b : ℕ) → i < n → b ≡ get_or F i 0 → Writes F m out i ((b ∷ []) ∷ drop (i + 1) F ∷ [])
+  next_is b h e = writes_split S.state (record { whole = rw (add-one i, e) (drop-cons F i 0 (omega (arith, S.many)) ∙ rw (append-nil (drop (suc i) F))) })
+
+  pub copy_inside : i < n → i < length out
+  copy_inside h = byte_inside (next_is (get_or F i 0) h refl)
+
+  pub copy_on : (b : ℕ) → i < n → b ≡ get_or F i 0 → Copied F m (set out i b) n (i + 1)
+  copy_on b h e = record { many = S.many; state = writes_byte (next_is b h e) }
+
+  pub copy_long : length out ≡ length m
+  copy_long = writes_long S.state
+
+  pub copy_end : n ≤ i → (n ≡ put_count F m) × (out ≡ put_front F m)
+  copy_end h = put_some F m S.state.room (S.many, (writes_end (writes_empty S.state (drop_of_length-le F {i = i} (omega (arith, S.many))))).1)

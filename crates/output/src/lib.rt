@@ -5,8 +5,7 @@ ghost use Rattle.std.specs.Prelude.{◌≡◌};
 ghost use Rattle.sigmf_datatypes.specs.Datatypes.{datatype_name};
 ghost use Rattle.output.specs.Put.{put_count, put_front};
 
-// A word, put to the front of out if it fits; how many bytes were put.
-#[tactic(auto, unfolding(crate::specs::Put::put_count, crate::specs::Put::put_front))]
+// A word, put to the front of out if it fits; how many bytes were put. A loop by hand: `copy_from_slice` makes the archives for C need `memmove`.
 pub fn put_word(out: &mut [u8], word: &[u8]) -> usize
     ensures count { result ≡ put_count word.now out.old }
     ensures memory { out.new ≡ put_front word.now out.old }
@@ -15,7 +14,9 @@ pub fn put_word(out: &mut [u8], word: &[u8]) -> usize
     if n > out.len() {
         return 0;
     }
-    out[..n].copy_from_slice(word);
+    for i in 0..n {
+        out[i] = word[i];
+    }
     n
 }
 

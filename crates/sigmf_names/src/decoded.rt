@@ -43,7 +43,9 @@ fn is_direct(raw: &[u8], p: Position) -> bool
     p.passed == 0 && p.at < raw.len() && is_ordinary(raw[p.at])
 }
 
-// How many bytes a name's decoded text has; limit for that many and more.
+// How many bytes a name's decoded text has; limit for that many and more. This and `put_decoded` stand out of line: inlined they make a core
+// name's comparisons run a quarter more instructions.
+#[inline(never)]
 pub(crate) fn decoded_length(raw: &[u8], limit: usize) -> usize
     ensures { result ≡ length (take limit (name_text raw.now)) }
 {
@@ -65,6 +67,7 @@ pub(crate) fn decoded_length(raw: &[u8], limit: usize) -> usize
 }
 
 // A name's decoded text, as much as there is room for, and how many bytes that is.
+#[inline(never)]
 pub(crate) fn put_decoded(raw: &[u8], out: &mut [u8]) -> usize
     ensures count { result ≤ length out.new }
     ensures room { length out.new ≡ length out.old }

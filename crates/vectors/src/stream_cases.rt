@@ -48,11 +48,12 @@ fn feed_chunks(st: State, s: &[u8], n: u64) -> Run {
         state: st,
     };
     let mut h = add_answer(EMPTY, e, finish(st));
-    let mut rest = s;
+    let mut p = 0u64;
     for _ in 0..n {
+        let rest = past(s, p);
         e = feed_chunk(e.state, rest);
         h = add_answer(h, e, finish(e.state));
-        rest = past(rest, chunk_size(rest));
+        p = p.wrapping_add(chunk_size(rest));
     }
     Run { last: e, hash: h }
 }
@@ -78,7 +79,7 @@ fn feed_again(st: State, part: &[u8], chunk: &mut [u8]) -> Fed {
 fn chunk_size(s: &[u8]) -> u64 {
     let mut head = [0u64; 2];
     read_numbers(s, &mut head);
-    head[1].saturating_add(16)
+    head[1].wrapping_add(16)
 }
 
 // The checksum h with an answer's numbers more, and what finishing gives.
