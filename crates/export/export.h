@@ -48,14 +48,14 @@ struct wrote {
     uint64_t count;
 };
 
-/* Judges a text. Takes up to 108 KB of stack (107,064 bytes measured), whatever the length, and no other memory.
+/* Judges a text. Takes up to 108 KB of stack (105,000 bytes measured), whatever the length, and no other memory.
    0: good.
    2: not one JSON value in valid UTF-8, or nested beyond 32.
    3: some object, however deep, has a name twice or more than 256 members. */
 uint32_t json_judge(const uint8_t *text, size_t text_len);
 
 /* Reads the metadata `text` of a recording whose dataset has `d` bytes: its summary, its capture rows into `rows`, its annotation rows
-   into `notes`. Refuses with 1 to 17 or 20 (too little memory). Takes up to 182 KB of stack (181,176 bytes
+   into `notes`. Refuses with 1 to 17 or 20 (too little memory). Takes up to 182 KB of stack (179,112 bytes
    measured), whatever the length, and no other memory. */
 struct summary recording_read(const uint8_t *text, size_t text_len, uint64_t d, uint64_t *rows, size_t rows_len, uint64_t *notes,
                               size_t notes_len);

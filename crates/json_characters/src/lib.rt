@@ -66,8 +66,8 @@ pub(crate) fn three_bytes(start: Cursor, s: &[u8], lo: u8, hi: u8) -> Option<Cur
     two_bytes(c, s, 0x80, 0xBF)
 }
 
-// A character of several bytes in UTF-8, from past its first byte b. Here and in `character` tests stand in a chain, since a `match` on ranges of
-// bytes runs a sixth more instructions on characters of three bytes.
+// A character of several bytes in UTF-8, from past its first byte b. The tests stand in a chain, since a `match` on ranges of bytes runs a seventh
+// more instructions on characters of three bytes.
 #[tactic(auto, unfolding(crate::specs::String::multibyte_at, json_blocks::specs::TextBytes::within))]
 pub(crate) fn multibyte(start: Cursor, s: &[u8], b: u8) -> Option<Cursor>
     ensures { result ≡ multibyte_at b s.now start.at }
@@ -173,26 +173,26 @@ pub fn character(start: Cursor, s: &[u8]) -> Option<Cursor>
     ensures { result ≡ character_at s.now start.at }
 {
     let at = start.at;
-    let b = peek(s, at);
-    if b < 0x20 {
-        return None;
+    match peek(s, at) {
+        0..=0x1F => None,
+        b'\\' => escape(Cursor { at: at + 1 }, s),
+        0x20..=0x7F => Some(Cursor { at: at + 1 }),
+        b => multibyte(Cursor { at: at + 1 }, s, b),
     }
-    if b == b'\\' {
-        return escape(Cursor { at: at + 1 }, s);
-    }
-    if b < 0x80 {
-        return Some(Cursor { at: at + 1 });
-    }
-    multibyte(Cursor { at: at + 1 }, s, b)
 }
 
-// A string, from past its opening quote.
+// A string, from past its opening quote. Both ways out stand in the loop: with `while` and `?` an escape runs four more instructions.
 pub fn string(start: Cursor, s: &[u8]) -> Option<Cursor>
     ensures { result ≡ string_at s.now start.at }
 {
     let mut i = skip_blocks::<Plain>(s, start.at);
-    while peek(s, i) != b'"' {
-        i = character(Cursor { at: i }, s)?.at;
+    loop {
+        if peek(s, i) == b'"' {
+            return Some(Cursor { at: i + 1 });
+        }
+        let Some(c) = character(Cursor { at: i }, s) else {
+            return None;
+        };
+        i = c.at;
     }
-    Some(Cursor { at: i + 1 })
 }
